@@ -164,7 +164,7 @@ checks-brokers: build
 # Draws the pictures of docs/pictures. It needs Debian's graphviz and gnuplot-nox.
 pictures:
 	@cd docs/pictures; for it in *.dot; do dot -Tsvg -o "$${it%.dot}.svg" "$$it"; done
-	@cd docs/pictures; for it in *.gnuplot; do gnuplot "$$it" > "$${it%.gnuplot}.svg"; done
+	@cd docs/pictures; for it in delay growth loading reads turns; do gnuplot -e "picture = \"$$it\"" pictures.gnuplot > "$$it.svg"; done
 
 # Installs and removes the program, and its Debian package in a system that is made for it; makes an image, runs and stops containers of
 # it, and compares the manifest for Kubernetes with its schema, for which python3-kubernetes is needed. It needs root and the network.

@@ -87,10 +87,14 @@ def print_table(heads: list[str], rows: list[list[str]]) -> None:
         print("  ".join([row[0].ljust(len(first)), *others]).rstrip(), flush=True)
 
 
-def write_figures(path: pathlib.Path, figures: dict[int, list[float]]) -> None:
-    """Writes a line for each number with its figures, separated by tabs: whole ones from 100 on."""
+def rows_of(figures: dict[int, list[float]]) -> str:
+    """A line for each number with its figures, separated by tabs: whole ones from 100 on."""
     rows = ([number, *(round(figure, 4) if figure < 100 else round(figure) for figure in found)] for number, found in figures.items())
-    path.write_text("".join("\t".join(map(str, row)) + "\n" for row in rows), encoding="utf-8")
+    return "".join("\t".join(map(str, row)) + "\n" for row in rows)
+
+
+def write_figures(path: pathlib.Path, figures: dict[int, list[float]]) -> None:
+    path.write_text(rows_of(figures), encoding="utf-8")
 
 
 def tell_unproved(program: str) -> None:

@@ -1,16 +1,13 @@
 // A server that looks at nothing, over event loops: it answers each line with the same reply. Connections go to its threads in turn.
 // What it takes for a line is what an event loop, a read and a write of a socket cost at least.
 #include <arpa/inet.h>
-#include <errno.h>
 #include <netinet/in.h>
 #include <netinet/tcp.h>
 #include <pthread.h>
-#include <stdio.h>
-#include <stdlib.h>
-#include <string.h>
 #include <sys/epoll.h>
-#include <sys/socket.h>
 #include <unistd.h>
+
+#include "../common.h"
 
 enum { MOST_THREADS = 64, MOST_REPLY = 65536, INPUT_ROOM = 65536, OUTPUT_ROOM = 1 << 20, BACKLOG = 4096, EVENTS = 256 };
 
@@ -29,31 +26,6 @@ struct loop {
     char input[INPUT_ROOM];
     char output[OUTPUT_ROOM];
 };
-
-static void fail(const char *what) {
-    fprintf(stderr, "event_loop: %s: %s\n", what, strerror(errno));
-    exit(1);
-}
-
-// The word as a number from 1 to most, or 0 where it is none.
-static long number_of(const char *word, long most) {
-    char *end;
-    errno = 0;
-    long number = strtol(word, &end, 10);
-    return errno || end == word || *end || number < 1 || number > most ? 0 : number;
-}
-
-// Whether all bytes went out. Its clients take their replies, so that it may wait.
-static int is_sent(int socket, const char *bytes, size_t left) {
-    while (left > 0) {
-        ssize_t sent = send(socket, bytes, left, MSG_NOSIGNAL);
-        if (sent < 0 && errno == EINTR) continue;
-        if (sent <= 0) return 0;
-        bytes += sent;
-        left -= (size_t)sent;
-    }
-    return 1;
-}
 
 // Reads once, and answers the lines that end in what came. Whether the connection goes on.
 static int is_answered(struct loop *loop, int socket) {

@@ -1,15 +1,12 @@
 // A server that looks at nothing: it answers each line with the same reply, one thread a connection.
 // What it takes for a line is what a read and a write of a socket cost at least.
 #include <arpa/inet.h>
-#include <errno.h>
 #include <netinet/in.h>
 #include <netinet/tcp.h>
 #include <pthread.h>
-#include <stdio.h>
-#include <stdlib.h>
-#include <string.h>
-#include <sys/socket.h>
 #include <unistd.h>
+
+#include "../common.h"
 
 enum { MAX_SESSIONS = 64, MAX_REPLY = 65536, INPUT_ROOM = 65536, OUTPUT_ROOM = 1 << 20 };
 
@@ -28,31 +25,6 @@ struct session {
     char input[INPUT_ROOM];
     char output[OUTPUT_ROOM];
 };
-
-static void fail(const char *what) {
-    fprintf(stderr, "idle: %s: %s\n", what, strerror(errno));
-    exit(1);
-}
-
-// The word as a number from 1 to most, or 0 where it is none.
-static long number_of(const char *word, long most) {
-    char *end;
-    errno = 0;
-    long number = strtol(word, &end, 10);
-    return errno || end == word || *end || number < 1 || number > most ? 0 : number;
-}
-
-// Whether all bytes went out.
-static int is_sent(int socket, const char *bytes, size_t left) {
-    while (left > 0) {
-        ssize_t sent = send(socket, bytes, left, MSG_NOSIGNAL);
-        if (sent < 0 && errno == EINTR) continue;
-        if (sent <= 0) return 0;
-        bytes += sent;
-        left -= (size_t)sent;
-    }
-    return 1;
-}
 
 // Answers the lines that end in these bytes, in as few writes as fit.
 static int is_answered(struct session *session, const char *bytes, size_t count) {

@@ -1,16 +1,13 @@
 // A client of many connections to 127.0.0.1, over one epoll: each keeps a number of requests in flight, for a time.
 // It says how many replies came and in how many seconds. Each line of a file is a request, or a key that Redis is asked for.
 #include <arpa/inet.h>
-#include <errno.h>
 #include <netinet/in.h>
 #include <netinet/tcp.h>
-#include <stdio.h>
-#include <stdlib.h>
-#include <string.h>
 #include <sys/epoll.h>
-#include <sys/socket.h>
 #include <time.h>
 #include <unistd.h>
+
+#include "../common.h"
 
 enum { MOST_CONNECTIONS = 65536, MOST_IN_FLIGHT = 1024, INPUT_ROOM = 1 << 18, EVENTS = 256 };
 
@@ -42,19 +39,6 @@ static size_t in_flight;
 static int is_redis;
 static char input[INPUT_ROOM];
 static char output[INPUT_ROOM];
-
-static void fail(const char *what) {
-    fprintf(stderr, "load: %s: %s\n", what, errno ? strerror(errno) : "the server broke the protocol");
-    exit(1);
-}
-
-// The word as a number from 1 to most, or 0 where it is none.
-static long number_of(const char *word, long most) {
-    char *end;
-    errno = 0;
-    long number = strtol(word, &end, 10);
-    return errno || end == word || *end || number < 1 || number > most ? 0 : number;
-}
 
 static double now(void) {
     struct timespec time;

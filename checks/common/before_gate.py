@@ -20,7 +20,7 @@ SERVING = ("sessions", "stay", "streams", "control")
 CHECKS = """
 listening_and_served live_read bad_words failed_streams many_lines_at_once clients_that_misbehave a_stream_that_grows four_streams_in_one_region
 versions backlog misbehaving slow_pages silent long_lines_of_many connection_limit moments ended_file addresses unix_socket
-sixteen_streams beginnings faults steps half_lines taken sources_that_stand two_writers beginnings_of_a_fifo removed_sockets random_writers
+sixteen_streams beginnings faults steps half_lines taken sources_that_stand two_publishers beginnings_of_a_fifo removed_sockets random_publishers
 beside_scripts words stats waits counts_of_records kinds_of_lines states_of_streams sixteen_at_once stop stop_in_time
 """
 

@@ -8,7 +8,7 @@ Edits of different functions are put in together, since each function is proved 
 only the modules of the edited functions are checked. An edit is refused where the function that it changes has no proof of
 its own any more. What is not refused so is tried alone. Where the first complaint is an answer in a proof file, that answer
 is dropped and the edit is tried again, so that it is not refused for the answer alone. Such an edit shows something only if
-the right body, written in the edit's shape, is proved without that answer too. That body is the edit's control, and keeps the
+the right body, written in the edit's shape, is proved without that answer too. That body is the edit's baseline, and keeps the
 meaning. Edits that need one and have none are counted.
 
 A clause may say of some value only that there is one, as `(x : T) × ..`, itself or by a definition that it cites. An edit under
@@ -23,18 +23,18 @@ A file of edits is text, a word and its value on each line, with an empty line b
   file: src/table.rt                             a file of the crate
   old: if next == last {                         a text of one line, which the file has once, from the one space on
   new: if next + 1 == last {                     what replaces it. More pairs of the file, or of others, may follow
-  control:                                       (where it has one) the pairs of the right body:
+  baseline:                                      (where it has one) the pairs of the right body:
   file: src/table.rt
   old: if next == last {
   new: if last == next {
 
-What is said of an edit of crates/CRATE/must-fail, its witness and its control, stands under its name without pairs. A line
+What is said of an edit of crates/CRATE/must-fail, its witness and its baseline, stands under its name without pairs. A line
 that begins with `#` is a remark.
 
 Nothing is written into the working tree. The environment's UNDER is a command that runs each check, as UNDER=nice, and
 SAID a folder that gets what each check said.
 
-Exit status: 0 where the prover refuses each edit and proves each control that is tried, 1 where it does not or an edit cannot
+Exit status: 0 where the prover refuses each edit and proves each baseline that is tried, 1 where it does not or an edit cannot
 be applied, 2 for a wrong argument.
 """
 import argparse
@@ -53,7 +53,7 @@ from collections.abc import Callable
 from common.crates import TOP, crates_below
 from common.tried import parser_of
 from contracts.locations import is_at, source
-from contracts.wrong_bodies import ERROR, Edit, control_of, edits_of, in_bundles, of_tests, texts_of, unproved_in, without_answers
+from contracts.wrong_bodies import ERROR, Edit, baseline_of, edits_of, in_bundles, of_tests, texts_of, unproved_in, without_answers
 
 ENDED = re.compile(r"^(only=\d+ proved=|logic=)", re.M)
 NOT_COVERED = "the borrow checker does not cover"
@@ -179,26 +179,26 @@ class Trial:
             self.say(edit, f"refused: {own[0][0]}: {own[0][1]}{' (without the answers that no longer fit)' * is_less}{doubt}")
         return bool(own)
 
-    def try_controls(self, controls: list[Edit]) -> int:
+    def try_baselines(self, baselines: list[Edit]) -> int:
         """Tries right bodies together, without the answers that do not fit them. How many were proved."""
         dropped: Texts = {}
-        said = self.check(controls, dropped)
+        said = self.check(baselines, dropped)
         for _ in range(ATTEMPTS):
-            less = less_answers(controls, said, dropped)
+            less = less_answers(baselines, said, dropped)
             if not less:
                 break
             dropped |= less
-            said = self.check(controls, dropped)
-        if not ENDED.search(said) and len(controls) > 1:
-            return sum(self.try_controls([it]) for it in controls)
-        return sum(self.is_proved(it, said) for it in controls)
+            said = self.check(baselines, dropped)
+        if not ENDED.search(said) and len(baselines) > 1:
+            return sum(self.try_baselines([it]) for it in baselines)
+        return sum(self.is_proved(it, said) for it in baselines)
 
-    def is_proved(self, control: Edit, said: str) -> bool:
+    def is_proved(self, baseline: Edit, said: str) -> bool:
         """Whether a check proved the functions that a right body is in."""
         unproved = [f"{function}: {goals}" for function, goals in unproved_in(said)
-                    if any(location is None or is_at(function, location) for location in control.locations)]
+                    if any(location is None or is_at(function, location) for location in baseline.locations)]
         has_ended = ENDED.search(said) is not None
-        self.say(control, f"NOT PROVED: {unproved[0]}" if unproved else "proved" if has_ended else self.why_no_end(said))
+        self.say(baseline, f"NOT PROVED: {unproved[0]}" if unproved else "proved" if has_ended else self.why_no_end(said))
         return has_ended and not unproved
 
     def try_apart(self, edits: list[Edit], said: str, dropped: Texts, attempt: int) -> int:
@@ -250,13 +250,13 @@ def try_all(edits: list[Edit], given: argparse.Namespace) -> int:
         with concurrent.futures.ThreadPoolExecutor(given.at_once) as workers:
             trial = Trial(folder, given.seconds)
             refused = sum(workers.map(trial.try_bundle, bundles))
-            controls = [control for edit in trial.without_answers if (control := control_of(edit))]
-            proved = sum(workers.map(trial.try_controls, bundles_of(controls, given.together)))
+            baselines = [baseline for edit in trial.without_answers if (baseline := baseline_of(edit))]
+            proved = sum(workers.map(trial.try_baselines, bundles_of(baselines, given.together)))
     print(f"{refused} edits refused by the prover, {len(edits) - refused} not; {len(bundles)} bundles, {(time.time() - began) / 60:.1f} minutes")
-    unsure = len(trial.without_answers) - len(controls)
-    print(f"{len(trial.without_answers)} of them without answers; {proved} controls of these proved, {len(controls) - proved} not, {unsure} missing")
+    unsure = len(trial.without_answers) - len(baselines)
+    print(f"{len(trial.without_answers)} of them without answers; {proved} baselines of these proved, {len(baselines) - proved} not, {unsure} missing")
     say_witnesses(edits)
-    return 1 if refused < len(edits) or proved < len(controls) else 0
+    return 1 if refused < len(edits) or proved < len(baselines) else 0
 
 
 def count_of(word: str) -> int:
@@ -285,9 +285,9 @@ def main(words: list[str]) -> int:
         print(f"edits: no edits of {', '.join(sorted({*crates} - {*known}))}", file=sys.stderr)
         return 2
     edits = [edit for it in crates for edit in edits_of(it) if it in names or f"{it}/{edit.name.removesuffix('.edit')}" in names]
-    controls = [control for edit in edits if (control := control_of(edit))]
+    baselines = [baseline for edit in edits if (baseline := baseline_of(edit))]
     by_tests = [edit for it in crates if it in names for edit in of_tests(it)]
-    unfit = [it for it in edits + controls + by_tests if it.why_not]
+    unfit = [it for it in edits + baselines + by_tests if it.why_not]
     for edit in unfit:
         print(f"{edit.told.at}: {edit.crate}/{edit.name}: it cannot be applied: {edit.why_not}")
     if unfit or given.stand:

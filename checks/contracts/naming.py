@@ -17,13 +17,13 @@ from contracts.locations import FUNCTION, SIGNATURE_END, Location, is_at, locati
 HEADS = {
     " KeyText": "KeyText",
     "<K: Ord + Dup, C: Join> Table<K, C>": "Table",
-    "<'a> ScriptedSource<'a>": "ScriptedSource",
+    "<'a> FakeSource<'a>": "FakeSource",
     " Table<StreamName, Highest>": "Table+StreamName+Highest",
     " PartialEq for Key": "KeyPartialEq",
     " fmt::Display for Refused<'_>": "RefusedDisplay",
     " From<ImageFault> for Refusal": "RefusalFromImageFault",
     "<T: Drop> From<AllocFailed<T>> for NoMemory": "NoMemoryFromAllocFailed",
-    "<R: Wait + Copy, S: Source + Drop> Origin<S> for OneWriter<R>": "OneWriterOrigin",
+    "<R: Wait + Copy, S: Source + Drop> Origin<S> for OnePublisher<R>": "OnePublisherOrigin",
     "<W: Write> Sink for W": "AnySink",
     " View for &Region": "RefRegionView",
 }

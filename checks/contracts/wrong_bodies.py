@@ -28,15 +28,15 @@ class Change(NamedTuple):
 class Edit:
     """A wrong body: what it changes, and the functions that this is in. A location of None is in no function's body."""
 
-    def __init__(self, crate: str, told: Told, is_control: bool = False) -> None:
+    def __init__(self, crate: str, told: Told, is_baseline: bool = False) -> None:
         self.crate, self.told = crate, told
-        self.name = told.name + (".control" if is_control else ".edit")
+        self.name = told.name + (".baseline" if is_baseline else ".edit")
         self.changes: list[Change] = []
         self.locations: set[Location | None] = set()
         self.existential: set[str] = set()
         self.is_refused_otherwise = False
         self.why_not = told.fault
-        pairs = told.control if is_control else told.pairs
+        pairs = told.baseline if is_baseline else told.pairs
         try:
             for pair in pairs:
                 self.put(*pair)
@@ -113,9 +113,9 @@ def of_tests(crate: str) -> list[Edit]:
     return [Edit(crate, told) for told in told_of(crate) if told.tests]
 
 
-def control_of(edit: Edit) -> Edit | None:
+def baseline_of(edit: Edit) -> Edit | None:
     """The right body in the shape of an edit, if one is kept."""
-    return Edit(edit.crate, edit.told, is_control=True) if edit.told.control else None
+    return Edit(edit.crate, edit.told, is_baseline=True) if edit.told.baseline else None
 
 
 def in_bundles(edits: list[Edit], most: int) -> list[list[Edit]]:

@@ -17,7 +17,7 @@ from collections.abc import Callable, Iterator
 
 from common.served import Client, Served, message, written
 from common.tried import Cases, try_group
-from faults.failing import environment, failing_library
+from faults.preloaded import environment, failing_library
 from replies.slow import slow_replies
 from replies.stored import stored
 

@@ -22,9 +22,8 @@ from collections.abc import Callable, Iterator
 import pytest
 
 from faults.refused_talks import SECONDS, Script
-from faults.refusing import FOR_GOOD, IN_THREADS, ONE, FindFault, Refusals
-from replies.stored import Stored, stored, stored_scripts
-from replies.wide_rounds import wide_rounds
+from faults.preloaded import FOR_GOOD, IN_THREADS, ONE, FindFault, Refusals
+from replies.stored import Stored, stored, stored_scripts, wide_rounds
 
 # Cases that end in one of these ways whichever allocation is refused: one of live regions in which a refused call comes again, and one of a
 # connection whose input is kept between turns, with its pauses and lines: all of them, or those before a turn that had no memory to keep it.

@@ -6,10 +6,10 @@ import subprocess
 import time
 
 from common.served import SECONDS, Json, same
-from faults.refusing import Refusals
+from faults.preloaded import Refusals
 from serving.controlled import Session, adoption
 from serving.staying import Staying, until
-from serving.writers import Writer
+from serving.publishers import Publisher
 
 # Refusals after which a line is asked again.
 MEMORY = (b'{"error":"memory"}\n', b'{"error":"no-entry"}\n')
@@ -23,7 +23,7 @@ STARTS_NOT = (b"pnuts: memory", b"pnuts: cannot start", b"pnuts: cannot listen",
 KEYS = ("a", "b", "x", "y")
 MESSAGES = b"".join(b'{"at":%d,"image":{"fields":{"v":"1"},"key":"%b","master":"w","version":[1,0]}}\n' % (at, key.encode())
                     for at, key in enumerate(KEYS, 1))
-# How often something is asked again, and how long a writer waits for a line of the region.
+# How often something is asked again, and how long a publisher waits for a line of the region.
 TIMES, PATIENCE = 20, 1.0
 
 
@@ -82,16 +82,16 @@ class Asking:
 
 
 def give(region: Staying, path: str, asking: Asking) -> bool:
-    """Has the region take the messages, by writer after writer. Whether it has them; else memory was refused, and it reads no stream."""
+    """Has the region take the messages, by publisher after publisher. Whether it has them; else memory was refused, and it reads no stream."""
     last = time.monotonic() + SECONDS
     while time.monotonic() < last and region.is_running():
-        with contextlib.suppress(OSError, ValueError), Writer(path) as writer:
-            writer.socket.settimeout(PATIENCE)
-            if writer.begin() == len(KEYS):
+        with contextlib.suppress(OSError, ValueError), Publisher(path) as publisher:
+            publisher.socket.settimeout(PATIENCE)
+            if publisher.begin() == len(KEYS):
                 until("the marks are those of all messages", lambda: asking.told(do="marks") == {"marks": {"east": len(KEYS)}})
                 return True
-            writer.send(MESSAGES)
-            while line := writer.line():
+            publisher.send(MESSAGES)
+            while line := publisher.line():
                 if json.loads(line) == {"taken": len(KEYS)}:
                     break
         if ROUND_FAILED in region.said():

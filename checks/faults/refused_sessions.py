@@ -7,7 +7,7 @@ import time
 from collections.abc import Iterator
 
 from common.served import SECONDS, Client, Json, Served, same, written
-from faults.refusing import Refusals
+from faults.preloaded import Refusals
 from replies.slow import text_of
 
 MEMORY = {"error": "memory"}

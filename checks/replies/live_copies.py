@@ -10,8 +10,7 @@ import subprocess
 import tempfile
 
 from common.served import SECONDS, Client, Json, Served, same, written
-from replies.random_streams import MOST, NAMES, Streams, copied, copy_line, messages, streams_of
-from replies.random_values import KEYS, MANY_KEYS, bounds_of
+from replies.random_values import KEYS, LONGEST, MANY_KEYS, NAMES, Streams, bounds_of, copied, copy_line, messages, streams_of
 
 # How many regions there are, and some that are tried each time: by the seed of all but the lengths of their streams.
 REGIONS, KEPT = 100, [(0, [1]), (7, [399, 1, 399])]
@@ -66,4 +65,4 @@ def check_live_copies(program: str, cases: int | None, seed: int) -> None:
         wanted = script_copies(program, words, deliveries(rng, streams) + asked, tablets)
         same("the copies", live_copies(program, words, streams, tablets), wanted)
 
-    try_drawn(agree, st.tuples(SEEDS, st.lists(st.integers(1, MOST - 1), min_size=1, max_size=len(NAMES))), cases or REGIONS, seed, KEPT)
+    try_drawn(agree, st.tuples(SEEDS, st.lists(st.integers(1, LONGEST - 1), min_size=1, max_size=len(NAMES))), cases or REGIONS, seed, KEPT)

@@ -1,9 +1,11 @@
-"""Random keys, images, queries and faults, from small pools so that they often meet."""
+"""Random keys, images, queries and faults, from small pools so that they often meet; and streams of them."""
 import json
 import random
 import re
-from collections.abc import Iterable
+import time
+from collections.abc import Iterable, Sequence
 
+from common.served import SECONDS, Client, same
 from replies.slow import text_of
 from replies.slow_lines import Json
 
@@ -183,3 +185,36 @@ def damaged(rng: random.Random, lines: list[bytes], is_long: bool) -> list[bytes
     else:
         lines[index] = unquoted(text_of(bent(rng, json.loads(lines[index]))))
     return lines
+
+
+NAMES = ["east", "north", "west"]
+LONGEST = 400
+
+Streams = dict[str, list[Json]]
+
+
+def streams_of(rng: random.Random, keys: list[str], lengths: Sequence[int] = ()) -> Streams:
+    """Up to three streams of random images, of these lengths or of random ones, half of the time with whole numbers."""
+    is_numbered = rng.random() < 0.5
+    lengths = lengths or [rng.randrange(1, LONGEST) for _ in range(rng.randrange(1, len(NAMES) + 1))]
+    return {name: [image(rng, keys, index, is_numbered) for index in range(length)] for name, length in zip(NAMES, lengths)}
+
+
+def messages(images: list[Json]) -> bytes:
+    return b"".join(json.dumps({"at": at, "image": each}).encode() + b"\n" for at, each in enumerate(images, start=1))
+
+
+def copy_line(tablet: int, streams: Streams) -> Json:
+    """Asks for a copy that reaches the ends of all streams."""
+    return {"do": "copy", "need": {name: len(images) for name, images in streams.items()}, "tablet": tablet}
+
+
+def copied(client: Client, line: Json) -> bytes:
+    """Asks until the tablet reaches the need."""
+    last = time.monotonic() + SECONDS
+    while time.monotonic() < last:
+        reply = client.ask(line)
+        if "lines" in reply:
+            return b"".join(client.reply() for _ in range(reply["lines"]))
+        same("why there is no copy", reply["error"], "behind")
+    raise TimeoutError(f"no copy came: {line}")

@@ -57,7 +57,7 @@ class Looking:
 
 
 def check_sixteen_at_once(program: str, folder: str) -> None:
-    """Sixteen sessions ask at once beside a writer and readers: what they are told never becomes less, and no change is left out."""
+    """Sixteen sessions ask at once beside a publisher and readers: what they are told never becomes less, and no change is left out."""
     with region_in(folder, program) as (region, control, path):
         looking = [Looking(control, seed) for seed in range(SESSIONS)]
         with Beside(write_on, [path], f"{folder}/last"), Beside(read_on, region.port, f"{folder}/reads"):

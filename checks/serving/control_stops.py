@@ -13,7 +13,7 @@ from common.served import SECONDS, in_time, same, seconds_of
 from serving.controlled import CHUNK, Session, region_in, written
 from serving.staying import KEYS, Beside, Staying, messages, until
 from serving.stream_lives import write_slowly
-from serving.writers import Writer
+from serving.publishers import Publisher
 
 CLIENTS, LINES, PAGES, KILLED = 256, 100, 60, 60
 READ = b'{"do":"read","key":"k%03d"}\n'
@@ -89,8 +89,8 @@ def check_stop(program: str, folder: str) -> None:
             client.sendall(READ % 1 * LINES + READ[:-2] % 1)
         waits = stack.enter_context(Session(control))
         waits.send(b'{"do":"notices","since":1000000000000000000,"wait":60}\n{"do":"notices","since":0,"wait":60}\n')
-        writer = stack.enter_context(Writer(path))
-        writer.begin()
+        publisher = stack.enter_context(Publisher(path))
+        publisher.begin()
         seconds = stopped(region, control)
         for client in clients:
             with client.makefile("rb") as file:
@@ -170,10 +170,10 @@ def check_stop_of_many_kinds(program: str, folder: str) -> None:
     for kind in ("none", "many", "half", "failed", "idle"):
         with region_in(folder, program) as (region, control, path), contextlib.ExitStack() as stack:
             if kind == "failed":
-                with Writer(path) as writer:
-                    writer.begin()
-                    writer.send(b"x\n")
-                    writer.last_lines()
+                with Publisher(path) as publisher:
+                    publisher.begin()
+                    publisher.send(b"x\n")
+                    publisher.last_lines()
             if kind == "half":
                 client = stack.enter_context(socket.create_connection(("127.0.0.1", region.port)))
                 client.sendall(b'{"do":"re')

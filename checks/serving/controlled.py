@@ -8,7 +8,7 @@ from types import TracebackType
 
 from common.served import SECONDS, Json, same
 from serving.staying import Staying, messages
-from serving.writers import Writer, socket_in
+from serving.publishers import Publisher, socket_in
 
 BOUNDS = '["k030","k060"]'
 TABLETS = 3
@@ -85,8 +85,8 @@ def written(path: str, first: int, count: int) -> None:
 
 def given(path: str, after: int, text: bytes, last: int) -> None:
     """Writes a text of messages to a region that has all up to a position, and waits until it has all up to the last."""
-    with Writer(path) as writer:
-        same("what the region has", writer.begin(), after)
-        writer.send(text)
-        while writer.taken() < last:
+    with Publisher(path) as publisher:
+        same("what the region has", publisher.begin(), after)
+        publisher.send(text)
+        while publisher.taken() < last:
             pass

@@ -14,9 +14,8 @@ from pathlib import Path
 from common.at_once import at_once
 from common.crates import TOP
 from common.served import Client, Served, message, same, written
-from faults.refusing import Refusals
-from replies.random_streams import copied, copy_line, streams_of
-from replies.random_values import KEYS, MANY_KEYS, bounds_of
+from faults.preloaded import Refusals
+from replies.random_values import KEYS, MANY_KEYS, bounds_of, copied, copy_line, streams_of
 from serving.controlled import Session
 from serving.copies_texts import exchanged, fault_of, least_marks, messages_from, part_of, refusal, taken
 from serving.staying import Staying, until
@@ -189,7 +188,7 @@ def check_no_copies(program: str, folder: str) -> None:
 
 
 def check_slow_texts(program: str, folder: str) -> None:
-    """A text that is written while it is read is one like any other, and one whose writer goes is cut short."""
+    """A text that is written while it is read is one like any other, and one whose publisher goes is cut short."""
     whole = b"".join(some_texts(program, folder, ["b", "ca"]))
     for text in (whole, whole[:-9]):
         path = os.path.join(folder, f"fifo-{len(text)}")
@@ -213,14 +212,14 @@ def check_killed_starts(program: str, folder: str) -> None:
     texts = some_texts(program, folder, ["b"])
     path, control = written(folder, "copies", b"".join(texts)), os.path.join(folder, "control")
     words = ["--copies", path, "--control", control, "--socket", os.path.join(folder, "socket")]
-    line = [program, "serve", "--stay", *words, f"east=listen:{folder}/writers"]
+    line = [program, "serve", "--stay", *words, f"east=listen:{folder}/publishers"]
     rng = random.Random(5)
     for _ in range(STARTS):
         start = subprocess.Popen(line, stdout=subprocess.DEVNULL, stderr=subprocess.DEVNULL)
         time.sleep(rng.uniform(0, 0.05))
         start.kill()
         start.wait()
-    with Staying(program, folder, [("east", f"listen:{folder}/writers")], *words), Session(control) as session:
+    with Staying(program, folder, [("east", f"listen:{folder}/publishers")], *words), Session(control) as session:
         same("the copies", [session.copy(tablet) for tablet in range(2)], texts)
     same("the file", Path(path).read_bytes(), b"".join(texts))
 
@@ -238,21 +237,21 @@ def check_too_many_streams(program: str, folder: str) -> None:
             same("the marks", session.told(do="marks"), {"marks": {f"s{at:02}": at for at in range(1, count + 1)}})
 
 
-def check_writers(program: str, folder: str) -> None:
-    """A writer at a socket is told what the copies have of its stream. What comes next is taken, and what would leave a gap is not."""
+def check_publishers(program: str, folder: str) -> None:
+    """A publisher at a socket is told what the copies have of its stream. What comes next is taken, and what would leave a gap is not."""
     for mark in (5, LAST_POSITION - 2):
         path = written(folder, "copies", f'{{"copy":1,"from":null,"to":null}}\n{{"at":{mark},"stream":"east"}}\n{{"end":1}}\n'.encode())
-        address, control = os.path.join(folder, "writers"), os.path.join(folder, "control")
+        address, control = os.path.join(folder, "publishers"), os.path.join(folder, "control")
         with Staying(program, folder, [("east", f"listen:{address}")], "--copies", path, "--control", control), Session(control) as session:
             until("the stream has its position", lambda: session.told(do="stats")["streams"][0]["position"] == mark)
             gap = f'{{"error":"gap","got":{mark + 2},"wanted":{mark + 1}}}\n'
             for at, wanted, then in ((mark + 2, gap, mark), (mark + 1, "", mark + 1)):
-                with socket.socket(socket.AF_UNIX) as writer, writer.makefile("rb") as told:
-                    writer.connect(address)
-                    writer.sendall(message(at, "k", 0, "x"))
-                    writer.shutdown(socket.SHUT_WR)
+                with socket.socket(socket.AF_UNIX) as publisher, publisher.makefile("rb") as told:
+                    publisher.connect(address)
+                    publisher.sendall(message(at, "k", 0, "x"))
+                    publisher.shutdown(socket.SHUT_WR)
                     said = told.read().decode().replace(f'{{"taken":{at}}}\n', "")
-                same(f"what the writer of {at} is told", said, f'{{"after":{mark}}}\n{wanted}')
+                same(f"what the publisher of {at} is told", said, f'{{"after":{mark}}}\n{wanted}')
                 until("the marks are those wanted", lambda: session.told(do="marks") == {"marks": {"east": then}})
 
 

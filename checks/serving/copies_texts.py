@@ -5,7 +5,7 @@ from collections.abc import Iterator
 from itertools import pairwise
 
 from common.served import SECONDS, Client, Json, Served, written
-from replies.random_streams import Streams, copied, copy_line, messages
+from replies.random_values import Streams, copied, copy_line, messages
 from replies.slow_copies import Ends, read_copy
 from replies.slow_lines import Refused
 

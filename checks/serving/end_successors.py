@@ -12,7 +12,7 @@ from serving.controlled import Session
 from serving.end_stops import QUICK, ends, idle_of
 from serving.staying import Staying, messages, until
 from serving.staying_words import connected
-from serving.writers import Writer, written_by
+from serving.publishers import Publisher, written_by
 
 IN_USE = b" in use\n"
 # The files of a region's sockets.
@@ -121,8 +121,8 @@ def check_a_successor_beside_renamed_sockets(program: str, folder: str) -> None:
             ends(first, "beside its successor", QUICK, idle)
             time.sleep(0.2)
             same("what is there of the successor's sockets", [os.path.exists(f"{folder}/{name}") for name in NAMES], [True] * len(NAMES))
-            with Writer(f"{folder}/feed") as writer, connected(f"{folder}/clients") as client:
-                same("what the successor's writer is told", writer.begin(), 50)
+            with Publisher(f"{folder}/feed") as publisher, connected(f"{folder}/clients") as client:
+                same("what the successor's publisher is told", publisher.begin(), 50)
                 same("a record of the successor", client.read("k001")["row"]["key"], "k001")
             stop(f"{folder}/control", 5)
             ends(second, "by itself", QUICK, idle)

@@ -15,7 +15,7 @@ from serving.controlled import Session, adoption, region_in, written
 from serving.exporting import NEEDS, Exporter
 from serving.prometheus import Prometheus
 from serving.staying import messages, until
-from serving.writers import Writer
+from serving.publishers import Publisher
 
 pytestmark = NEEDS
 
@@ -33,10 +33,10 @@ def check_scrapes(program: str, folder: str) -> None:
             session.told(do="lose", tablet=1)
             seen.wait_for('pnuts_tablet_recovering == 1', [1.0])
             same("its health", exporter.health(), (503, "tablet 1 is recovering\n"))
-            with Writer(path) as writer:
-                writer.begin()
-                writer.send(b"x\n")
-                writer.last_lines()
+            with Publisher(path) as publisher:
+                publisher.begin()
+                publisher.send(b"x\n")
+                publisher.last_lines()
             seen.wait_for_alerts("PnutsTabletRecovering", "PnutsStreamWithoutWriter")
             same("the adoption", session.ask(adoption(copy)), b'{"adopted":1}\n')
             seen.wait_for("sum(pnuts_tablet_recovering)", [0.0])
@@ -79,19 +79,19 @@ def check_metrics(program: str, folder: str) -> None:
         same("what is wrong", exporter.health()[1].startswith("stream east brought nothing for "), True)
 
 
-def check_lag_that_writers_tell(program: str, folder: str) -> None:
-    """A region lags by what its writer says of the broker, and no longer once it has that; before the writer says it nothing is known."""
-    with region_in(folder, program) as (_, control, path), Exporter(control) as exporter, Writer(path) as writer:
-        writer.begin()
+def check_lag_that_publishers_tell(program: str, folder: str) -> None:
+    """A region lags by what its publisher says of the broker, and no longer once it has that; before the publisher says it nothing is known."""
+    with region_in(folder, program) as (_, control, path), Exporter(control) as exporter, Publisher(path) as publisher:
+        publisher.begin()
         same("before it says anything", exporter.health("?lag=5"), (503, "stream east has no feed that tells how far its broker is\n"))
-        writer.send(b'{"stream":"a"}\n{"newest":3}\n' + messages(1, 3))
+        publisher.send(b'{"stream":"a"}\n{"newest":3}\n' + messages(1, 3))
         until("it is level", lambda: exporter.health("?lag=5") == (200, "well\n"))
         same("its lag", [exporter.metrics()[f'pnuts_stream_{it}{{stream="east"}}'] for it in ("newest", "lag_messages", "position")], [3, 0, 3])
-        writer.send(b'{"newest":10}\n')
+        publisher.send(b'{"newest":10}\n')
         until("it lags", lambda: exporter.health("?lag=1")[1].startswith("stream east lags for "))
         same("by how much", exporter.metrics()['pnuts_stream_lag_messages{stream="east"}'], 7)
         same("without a word", exporter.health(), (200, "well\n"))
-        writer.send(messages(4, 7) + b'{"newest":10}\n')
+        publisher.send(messages(4, 7) + b'{"newest":10}\n')
         until("it is level again", lambda: exporter.health("?lag=1") == (200, "well\n"))
 
 

@@ -11,7 +11,7 @@ from serving.controlled import region_in, written
 from serving.exporting import NEEDS, Exporter, answered
 from serving.prometheus import FOLDER, RULES, Prometheus
 from serving.staying import until
-from serving.writers import Writer
+from serving.publishers import Publisher
 
 pytestmark = NEEDS
 
@@ -83,10 +83,10 @@ def check_health_of_a_stream_that_failed(program: str, folder: str) -> None:
     """A region whose stream has failed is asked on, as the message fails in all others too: `/healthz` says it, and is 200."""
     with region_in(folder, program) as (_, control, path), Exporter(control) as exporter:
         written(path, 1, 250)
-        with Writer(path) as writer:
-            writer.begin()
-            writer.send(b"x\n")
-            writer.last_lines()
+        with Publisher(path) as publisher:
+            publisher.begin()
+            publisher.send(b"x\n")
+            publisher.last_lines()
         until("its health says it", lambda: exporter.health() == (200, "stream east has failed: not-json\n"))
 
 

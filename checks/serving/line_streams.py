@@ -16,10 +16,10 @@ from serving.controlled import Session
 from serving.line_talks import ANSWERED, PIECES, Talk, ends_of, shut, talk_all
 from serving.line_ways import AROUND, parts_of
 from serving.staying import Staying, until
-from serving.writers import failed, said_of_faults
+from serving.publishers import failed, said_of_faults
 
 STREAMS, FAULTS = 16, 3
-# How long a region is given to see that a FIFO's writer has gone, whose fault was told before.
+# How long a region is given to see that a FIFO's publisher has gone, whose fault was told before.
 SEEN = 0.3
 
 
@@ -34,7 +34,7 @@ class Told(NamedTuple):
     is_cut: bool
 
     def text(self, has: int) -> bytes:
-        """All that a writer sends to a region that has all messages up to a position."""
+        """All that a publisher sends to a region that has all messages up to a position."""
         first = has + 1 + self.before
         before = b"".join(message(at, image()) + b"\n" for at in range(has + 1, first))
         after = b"".join(b"\n" + message(at, image()) for at in range(first + 1, first + 1 + self.after))
@@ -103,22 +103,22 @@ class Streams:
 
 
 def by_sockets(streams: Streams, told: dict[str, Told]) -> None:
-    """Gives each to its socket. The writer is told what the region has, and then what it has taken or why it takes no more."""
+    """Gives each to its socket. The publisher is told what the region has, and then what it has taken or why it takes no more."""
     with contextlib.ExitStack() as stay:
         talks, last = list[Talk](), dict[str, bytes]()
         for name, one in told.items():
-            writer = stay.enter_context(socket.socket(socket.AF_UNIX))
-            writer.settimeout(SECONDS)
-            writer.connect(streams.path(name))
+            publisher = stay.enter_context(socket.socket(socket.AF_UNIX))
+            publisher.settimeout(SECONDS)
+            publisher.connect(streams.path(name))
             has, text = streams.has[name], one.text(streams.has[name])
-            talk = Talk(name, text, ends_of(len(text), one.piece, limits_in(text, one)), shut(writer) if one.is_cut else None)
-            talks.append(talk.begin(writer.fileno(), writer.fileno()))
+            talk = Talk(name, text, ends_of(len(text), one.piece, limits_in(text, one)), shut(publisher) if one.is_cut else None)
+            talks.append(talk.begin(publisher.fileno(), publisher.fileno()))
             last[name] = last_line(one, has)
         late = talk_all(talks, lambda talk: talk.is_over or not talk.finish and talk.came.endswith(last[talk.name]), streams.idle)
         same("who is not told all", [f"{told[talk.name]}: {talk.came!r}" for talk in late], [])
         for talk in talks:
             first, _, rest = talk.came.partition(b"\n")
-            same(f"what a writer of {told[talk.name]} is told first", first, b'{"after":%d}' % streams.has[talk.name])
+            same(f"what a publisher of {told[talk.name]} is told first", first, b'{"after":%d}' % streams.has[talk.name])
             reasons = [line for line in rest.splitlines(keepends=True) if not line.startswith(b'{"taken":')]
             same(f"why no more is taken of {told[talk.name]}", reasons, [last[talk.name]] if told[talk.name].refusal() else [])
         streams.await_end(told)
@@ -131,7 +131,7 @@ def limits_in(text: bytes, one: Told) -> list[int]:
 
 
 def last_line(one: Told, has: int) -> bytes:
-    """The last line that a writer is told."""
+    """The last line that a publisher is told."""
     after = one.has_after(has)
     if refusal := one.refusal():
         return text_of(dict(sorted({"at": has + one.before + 1, **refusal}.items()))) + b"\n"
@@ -139,7 +139,7 @@ def last_line(one: Told, has: int) -> bytes:
 
 
 def by_fifos(streams: Streams, told: dict[str, Told]) -> None:
-    """Gives each to its FIFO, once the writer before it was seen to have gone."""
+    """Gives each to its FIFO, once the publisher before it was seen to have gone."""
     time.sleep(SEEN)
     with contextlib.ExitStack() as stay:
         talks, nothing = list[Talk](), stay.enter_context(open(os.devnull, "rb"))

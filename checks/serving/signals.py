@@ -15,7 +15,7 @@ from serving.controlled import Session, region_in
 from serving.staying import CHUNK, KEYS, PAGE, Staying, key_of, messages, until
 from serving.staying_clients import deaf_client
 from serving.stream_fifos import opens, wait_for
-from serving.writers import Writer, made, said_of_faults, socket_in
+from serving.publishers import Publisher, made, said_of_faults, socket_in
 
 # How often a program is stopped, and for how long.
 TIMES, STOPPED = 4, 0.03
@@ -41,10 +41,10 @@ def interrupt(process: int) -> None:
 def check_control_sessions(program: str, folder: str) -> None:
     """Control sessions that asked nothing yet, that asked, have half a line, wait for a change, have half of a copy, or take no replies."""
     with region_in(folder, program) as (region, control, path), contextlib.ExitStack() as stay:
-        with Writer(path) as writer:
-            writer.begin()
-            writer.send(messages(1, 300))
-            until("it has all", lambda: writer.taken() == 300)
+        with Publisher(path) as publisher:
+            publisher.begin()
+            publisher.send(messages(1, 300))
+            until("it has all", lambda: publisher.taken() == 300)
         new, asked, half, waits, adopts, deaf = (stay.enter_context(Session(control)) for _ in range(6))
         marks = b'{"marks":{"east":300}}\n'
         same("marks before", asked.ask(MARKS), marks)
@@ -132,30 +132,30 @@ def check_sessions_that_end(program: str, folder: str) -> None:
             same(f"how it ends with {words}", served.end(), (0, b"served 5\n", b""))
 
 
-def check_writers(program: str, folder: str) -> None:
-    """Writers of sockets and FIFOs that wrote nothing yet, that wrote, have half a message, or wait for their turn; and streams whose writer
+def check_publishers(program: str, folder: str) -> None:
+    """Publishers of sockets and FIFOs that wrote nothing yet, that wrote, have half a message, or wait for their turn; and streams whose publisher
     is not there yet, or has gone."""
     (late, far), (at, east), (silent, north) = made(folder, "far"), socket_in(folder), socket_in(folder, "north")
     path, west = made(folder, "west")
     with Staying(program, folder, [east, west, far, north]) as region, Client(region.port) as client, contextlib.ExitStack() as stay:
         until("it has opened the FIFO", lambda: opens(path))
         pipe = stay.enter_context(open(path, "wb", buffering=0))
-        writer, quiet = stay.enter_context(Writer(at)), stay.enter_context(Writer(silent))
-        same("what it has", [writer.begin(), quiet.begin()], [0, 0])
-        waits, half = stay.enter_context(Writer(at)), messages(3, 1)
+        publisher, quiet = stay.enter_context(Publisher(at)), stay.enter_context(Publisher(silent))
+        same("what it has", [publisher.begin(), quiet.begin()], [0, 0])
+        waits, half = stay.enter_context(Publisher(at)), messages(3, 1)
         pipe.write(message(1, "west", 1, "x") + message(2, "west", 2, "x")[:30])
-        writer.send(messages(1, 2) + half[:20])
+        publisher.send(messages(1, 2) + half[:20])
         wait_for(client, 2)
         interrupt(region.process.pid)
         pipe.write(message(2, "west", 2, "x")[30:])
-        writer.send(half[20:])
+        publisher.send(half[20:])
         quiet.send(message(1, "north", 1, "x"))
         with open(late, "wb", buffering=0) as first:
             first.write(message(1, "far", 1, "x"))
             for name, number in (("west", 2), ("north", 1), ("far", 1)):
                 client.wait_for(name, row_of(name, number, "x"))
         wait_for(client, 3)
-        writer.socket.close()
+        publisher.socket.close()
         same("what the one that waited is told", waits.begin(), 3)
         region.wait_for_words(b"pnuts: stream far ended\n")
         interrupt(region.process.pid)
@@ -171,10 +171,10 @@ def check_nobody(program: str, folder: str) -> None:
     """Programs at whose sockets nobody is yet accept all that come then; a script that waits for a line is answered."""
     with region_in(folder, program) as (region, control, path):
         interrupt(region.process.pid)
-        with Client(region.port) as client, Session(control) as session, Writer(path) as writer:
+        with Client(region.port) as client, Session(control) as session, Publisher(path) as publisher:
             same("a client", client.read(key_of(1)), {"row": None})
             same("a control session", session.ask(MARKS), b'{"marks":{}}\n')
-            same("a writer", writer.begin(), 0)
+            same("a publisher", publisher.begin(), 0)
     with Served(program, [("east", os.devnull)]) as served:
         interrupt(served.process.pid)
         with Client(served.port) as client:

@@ -1,4 +1,4 @@
-"""Where writers of a stream may begin, their faults, and what they are told: checks of `checks/run streams`."""
+"""Where publishers of a stream may begin, their faults, and what they are told: checks of `checks/run streams`."""
 import contextlib
 import itertools
 import json
@@ -9,10 +9,10 @@ import time
 
 from common.served import Client, Json, image, message, row_of, same, written
 from serving.staying import KEYS, Staying, key_of, messages, until
-from serving.writers import Writer, failed, made, said_of_faults, socket_in, written_by
+from serving.publishers import Publisher, failed, made, said_of_faults, socket_in, written_by
 
 LONG, MUCH = 70_000, 5_000_000
-# The faults of a message, and the reason that the writer gets for each.
+# The faults of a message, and the reason that the publisher gets for each.
 Change = Json
 BAD_SHAPES: dict[str, Change] = {"key": {"key": 1}, "master": {"master": 5}, "version": {"version": "x"}, "other": {"more": 1},
                                  "fields": {"fields": []}, "deleted": {"deleted": False}}
@@ -27,7 +27,7 @@ def of(at: object, **changes: object) -> bytes:
 
 
 def faults_at(at: int) -> list[Fault]:
-    """Texts that are at fault where a position is wanted, each with what its writer is told besides that, and what is said."""
+    """Texts that are at fault where a position is wanted, each with what its publisher is told besides that, and what is said."""
     plain = [(b"x\n", "not-json"), (b"\n", "not-json"), (of(at)[:-9] + b"\n", "not-json"), (b"\xff\n", "not-json"),
              (b"x" * LONG, "too-long"), (b"%b%b\n" % (of(at)[:-1], b" " * 65_536), "too-long")]
     shapes = [(of(at, **change), member) for member, change in BAD_SHAPES.items()]
@@ -43,7 +43,7 @@ def line_of(told: dict[str, object]) -> bytes:
 
 
 def check_beginnings(program: str, folder: str) -> None:
-    """Writers that begin at 1, in the middle and at N + 1 are taken, and one at N + 2 is told of the gap."""
+    """Publishers that begin at 1, in the middle and at N + 1 are taken, and one at N + 2 is told of the gap."""
     path, east = socket_in(folder)
     with Staying(program, folder, [east]) as region, Client(region.port) as client:
         has = 0
@@ -51,11 +51,11 @@ def check_beginnings(program: str, folder: str) -> None:
             written_by(path, messages(first, count), has)
             has = max(has, first + count - 1)
         for first in (has + 2, has + 50, 10**15):
-            with Writer(path) as writer:
-                same("what the region has", writer.begin(), has)
-                writer.send(messages(first, 3))
+            with Publisher(path) as publisher:
+                same("what the region has", publisher.begin(), has)
+                publisher.send(messages(first, 3))
                 wanted = [b'{"error":"gap","got":%d,"wanted":%d}\n' % (first, has + 1)]
-                same("what a writer with a gap is told", writer.last_lines(), wanted)
+                same("what a publisher with a gap is told", publisher.last_lines(), wanted)
         for at in (1, has):
             client.wait_for(key_of(at), row_of(key_of(at), 0, "x"))
         same("what is there of those after a gap", client.read(key_of(has + 2)), {"row": None})
@@ -66,7 +66,7 @@ def check_beginnings(program: str, folder: str) -> None:
 
 
 def check_faults(program: str, folder: str) -> None:
-    """Each fault, as a writer's first line and after two others: its line to the writer and on standard error, and the next writer."""
+    """Each fault, as a publisher's first line and after two others: its line to the publisher and on standard error, and the next publisher."""
     path, east = socket_in(folder)
     with Staying(program, folder, [east]) as region:
         has, said = 0, list[bytes]()
@@ -74,31 +74,31 @@ def check_faults(program: str, folder: str) -> None:
             for number in range(len(faults_at(1))):
                 text, told, why = faults_at(has + good + 1)[number]
                 at = has + good + 1
-                with Writer(path) as writer:
-                    same("what the region has", writer.begin(), has)
-                    writer.send(messages(has + 1, good) + text)
-                    same(f"what is told of {text[:90]!r}", writer.last_lines(), [line_of({"at": at, **told})])
+                with Publisher(path) as publisher:
+                    same("what the region has", publisher.begin(), has)
+                    publisher.send(messages(has + 1, good) + text)
+                    same(f"what is told of {text[:90]!r}", publisher.last_lines(), [line_of({"at": at, **told})])
                 said.append(failed("east", at, good + 1, why))
                 has += good
         until(f"all {len(said)} faults are said", lambda: len(said_of_faults(region)) >= len(said))
         for found, wanted in itertools.zip_longest(said_of_faults(region), said):
             same("what is said", found, wanted)
-        print(f"  {len(said)} writers were told of their faults")
+        print(f"  {len(said)} publishers were told of their faults")
 
 
 def check_steps(program: str, folder: str) -> None:
-    """A message that does not follow the one before is out of step, wherever its writer began; what came before it is taken."""
+    """A message that does not follow the one before is out of step, wherever its publisher began; what came before it is taken."""
     path, east = socket_in(folder)
     cases = [(1, 3, 5), (1, 2, 1), (2, 2, 3), (3, 1, 1), (4, 2, 7), (1, 5, 10**15)]
     with Staying(program, folder, [east]) as region, Client(region.port) as client:
         has, said = 0, list[bytes]()
         for first, count, got in cases:
             wanted = first + count
-            with Writer(path) as writer:
-                same("what the region has", writer.begin(), has)
-                writer.send(messages(first, count) + message(got, "out", 1, "x"))
+            with Publisher(path) as publisher:
+                same("what the region has", publisher.begin(), has)
+                publisher.send(messages(first, count) + message(got, "out", 1, "x"))
                 line = {"at": wanted, "error": "out-of-step", "got": got}
-                same("what the writer is told", writer.last_lines(), [line_of(line)])
+                same("what the publisher is told", publisher.last_lines(), [line_of(line)])
             has = max(has, wanted - 1)
             said.append(failed("east", wanted, count + 1, f"out-of-step, got {got}"))
             client.wait_for(key_of(has), row_of(key_of(has), 0, "x"))
@@ -107,20 +107,20 @@ def check_steps(program: str, folder: str) -> None:
 
 
 def check_much_behind_a_fault(program: str, folder: str) -> None:
-    """A writer that goes on sending, megabytes after its fault, is told all the same, and the next one is taken."""
+    """A publisher that goes on sending, megabytes after its fault, is told all the same, and the next one is taken."""
     path, east = socket_in(folder)
     with Staying(program, folder, [east]):
         for _ in range(20):
-            with Writer(path) as writer:
-                same("what the region has", writer.begin(), 0)
+            with Publisher(path) as publisher:
+                same("what the region has", publisher.begin(), 0)
                 with contextlib.suppress(ConnectionError, BrokenPipeError):
-                    writer.send(b"x\n" + b" " * MUCH)
-                same("what the writer is told", writer.last_lines(), [b'{"at":1,"error":"not-json"}\n'])
+                    publisher.send(b"x\n" + b" " * MUCH)
+                same("what the publisher is told", publisher.last_lines(), [b'{"at":1,"error":"not-json"}\n'])
         written_by(path, messages(1, 1), 0)
 
 
 def check_half_lines(program: str, folder: str) -> None:
-    """Half a line that a writer leaves is dropped, and is not joined to the next one's first: whole or not, and of any length."""
+    """Half a line that a publisher leaves is dropped, and is not joined to the next one's first: whole or not, and of any length."""
     path, east = socket_in(folder)
     halves = [b"{", messages(1, 1)[:-1], messages(1, 1)[:20], b"x", b" " * 65_000, b"\xff", b""]
     with Staying(program, folder, [east]) as region, Client(region.port) as client:
@@ -132,15 +132,15 @@ def check_half_lines(program: str, folder: str) -> None:
 
 
 def check_taken(program: str, folder: str) -> None:
-    """What a writer is told was taken rises, is shown to readers, comes at most ten times a second, and comes for the last message."""
+    """What a publisher is told was taken rises, is shown to readers, comes at most ten times a second, and comes for the last message."""
     path, east = socket_in(folder)
-    with Staying(program, folder, [east]) as region, Client(region.port) as client, Writer(path) as writer:
-        same("what the region has", writer.begin(), 0)
+    with Staying(program, folder, [east]) as region, Client(region.port) as client, Publisher(path) as publisher:
+        same("what the region has", publisher.begin(), 0)
         start, told, count = time.monotonic(), [0], 600
-        sender = threading.Thread(target=send_slowly, args=[writer, count])
+        sender = threading.Thread(target=send_slowly, args=[publisher, count])
         sender.start()
         while told[-1] < count:
-            told.append(writer.taken())
+            told.append(publisher.taken())
             shown = client.read(key_of(told[-1]))["row"]
             same(f"whether {told[-1]} is shown", shown is not None and shown["version"][1] >= told[-1] // KEYS, True)
         took = time.monotonic() - start
@@ -150,19 +150,19 @@ def check_taken(program: str, folder: str) -> None:
         same("whether it is told what is taken while more comes", len(told) > 3, True)
 
 
-def send_slowly(writer: Writer, count: int) -> None:
+def send_slowly(publisher: Publisher, count: int) -> None:
     for at in range(1, count + 1):
-        writer.send(messages(at, 1))
+        publisher.send(messages(at, 1))
         time.sleep(0.005)
 
 
 def check_stopped_region(program: str, folder: str) -> None:
-    """A region that is stopped by a signal and goes on reads its writers on, at a socket and at a FIFO."""
+    """A region that is stopped by a signal and goes on reads its publishers on, at a socket and at a FIFO."""
     (path, west), (at, east) = made(folder, "west"), socket_in(folder)
-    with Staying(program, folder, [east, west]) as region, Client(region.port) as client, open(path, "wb", buffering=0) as pipe, Writer(at) as writer:
-        same("what the region has", writer.begin(), 0)
+    with Staying(program, folder, [east, west]) as region, Client(region.port) as client, open(path, "wb", buffering=0) as pipe, Publisher(at) as publisher:
+        same("what the region has", publisher.begin(), 0)
         for number in range(1, 31):
-            writer.send(messages(number, 1))
+            publisher.send(messages(number, 1))
             pipe.write(message(number, "west", number, "x"))
             # While it waits for more with something to tell, and while it does not.
             time.sleep(number % 3 * 0.07)
@@ -181,9 +181,9 @@ def check_sources_that_stand(program: str, folder: str) -> None:
     with Staying(program, folder, [east, west, ("north", north)]) as region, Client(region.port) as client:
         with open(path, "wb", buffering=0) as pipe:
             pipe.write(messages(1, 1) + of(4))
-        with Writer(at) as writer:
-            writer.send(messages(1, 3) + b"x\n")
-            writer.last_lines()
+        with Publisher(at) as publisher:
+            publisher.send(messages(1, 3) + b"x\n")
+            publisher.last_lines()
         wanted = {failed("north", 3, 3, "out-of-range master"), failed("west", 2, 2, "out-of-step, got 4"), failed("east", 4, 4, "not-json")}
         until("all faults are said", lambda: set(said_of_faults(region)) == wanted)
         with open(path, "wb", buffering=0) as again:

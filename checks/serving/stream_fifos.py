@@ -1,4 +1,4 @@
-"""FIFOs whose writers come at once, too early or at a wrong position, or whose region lacks something: checks of `checks/run streams`."""
+"""FIFOs whose publishers come at once, too early or at a wrong position, or whose region lacks something: checks of `checks/run streams`."""
 import contextlib
 import fcntl
 import os
@@ -11,7 +11,7 @@ from collections.abc import Iterator
 from common.resting import rests
 from common.served import SECONDS, Client, row_of, same, seconds_of
 from serving.staying import Staying, key_of, messages, until
-from serving.writers import Writer, failed, made, said_of_faults, socket_in
+from serving.publishers import Publisher, failed, made, said_of_faults, socket_in
 
 ENDED = b"pnuts: stream east ended\n"
 LIVES, RESTARTS, QUIET_LIVES = 50, 50, 300
@@ -22,7 +22,7 @@ FEW_DESCRIPTORS, SILENT = 8, 60
 
 
 def write(path: str, text: bytes) -> None:
-    """A writer that opens a FIFO, writes and goes. It fails where nobody reads the FIFO."""
+    """A publisher that opens a FIFO, writes and goes. It fails where nobody reads the FIFO."""
     handle = os.open(path, os.O_WRONLY | os.O_NONBLOCK)
     os.set_blocking(handle, True)
     with open(handle, "wb", buffering=0) as pipe:
@@ -48,8 +48,8 @@ def without_descriptors(region: Staying) -> Iterator[None]:
 
 
 def seen_within(region: Staying) -> float:
-    """How long a region is given to see that a writer has gone, which is asked as the first one goes."""
-    took = seconds_of(lambda: until("the end of its first writer is told", lambda: b" ended\n" in region.said()))
+    """How long a region is given to see that a publisher has gone, which is asked as the first one goes."""
+    took = seconds_of(lambda: until("the end of its first publisher is told", lambda: b" ended\n" in region.said()))
     return max(SEEN, TIMES * took)
 
 
@@ -62,8 +62,8 @@ def wait_at(errors: int, words: bytes) -> None:
         said += os.read(errors, 4_096)
 
 
-def check_writer_right_after_the_end(program: str, folder: str) -> None:
-    """A FIFO's writer that comes as soon as the end of the one before was told is read, fifty times."""
+def check_publisher_right_after_the_end(program: str, folder: str) -> None:
+    """A FIFO's publisher that comes as soon as the end of the one before was told is read, fifty times."""
     path, east = made(folder)
     ours, theirs = os.pipe()
     with open(ours, "rb"), Staying(program, folder, [east], errors=theirs) as region, Client(region.port) as client:
@@ -104,7 +104,7 @@ def check_restarts_before_the_end(program: str, folder: str) -> None:
 
 
 def check_beginnings_of_a_fifo(program: str, folder: str) -> None:
-    """A FIFO's writer may begin at 1, in the middle or at N + 1. One at N + 2 or with a bad line is dropped whole, and the next one is read."""
+    """A FIFO's publisher may begin at 1, in the middle or at N + 1. One at N + 2 or with a bad line is dropped whole, and the next one is read."""
     path, east = made(folder)
     with Staying(program, folder, [east]) as region, Client(region.port) as client:
         until("it has opened the FIFO", lambda: opens(path))
@@ -139,7 +139,7 @@ def opens(path: str) -> bool:
 
 
 def check_no_descriptor_left(program: str, folder: str) -> None:
-    """Where all descriptors are taken a FIFO's next writer is read, and a socket's at the latest once some are free; no processor is spent meanwhile."""
+    """Where all descriptors are taken a FIFO's next publisher is read, and a socket's at the latest once some are free; no processor is spent meanwhile."""
     (path, west), (at, east) = made(folder, "west"), socket_in(folder)
     with Staying(program, folder, [east, west]) as region, Client(region.port) as client:
         until("it has opened the FIFO", lambda: opens(path))
@@ -151,16 +151,16 @@ def check_no_descriptor_left(program: str, folder: str) -> None:
                 time.sleep(seen)
                 write(path, messages(number, 1))
                 wait_for(client, number)
-            with Writer(at) as writer:
-                writer.is_taken(seen)
+            with Publisher(at) as publisher:
+                publisher.is_taken(seen)
                 rests(region.process.pid, "while no descriptor is left")
                 same("whether the clients are answered", client.read(key_of(1)), {"row": row_of(key_of(1), 0, "x")})
-        with Writer(at) as writer:
-            same("what a socket's writer is told", writer.begin(), 0)
-            writer.send(messages(1, 8))
+        with Publisher(at) as publisher:
+            same("what a socket's publisher is told", publisher.begin(), 0)
+            publisher.send(messages(1, 8))
             wait_for(client, 8)
         told = [line for line in region.said().splitlines() if b"Too many open files" in line]
-        same(f"whether {told} are at most one line each for clients and writers", len(told) <= 2, True)
+        same(f"whether {told} are at most one line each for clients and publishers", len(told) <= 2, True)
 
 
 def filled() -> tuple[int, int]:
@@ -176,7 +176,7 @@ def filled() -> tuple[int, int]:
 
 
 def check_errors_that_nobody_drains(program: str, folder: str) -> None:
-    """Where standard error takes no more, FIFOs begin again and writers at sockets are told of their faults, as if it did."""
+    """Where standard error takes no more, FIFOs begin again and publishers at sockets are told of their faults, as if it did."""
     (path, west), (at, east) = made(folder, "west"), socket_in(folder)
     ours, theirs = filled()
     try:
@@ -185,10 +185,10 @@ def check_errors_that_nobody_drains(program: str, folder: str) -> None:
             for number in range(1, QUIET_LIVES + 1):
                 write(path, messages(number, 1))
                 wait_for(client, number)
-                with Writer(at) as writer:
-                    same("what the region has", writer.begin(), 0)
-                    writer.send(b"x\n")
-                    same("what its writer is told", writer.last_lines(), [b'{"at":1,"error":"not-json"}\n'])
+                with Publisher(at) as publisher:
+                    same("what the region has", publisher.begin(), 0)
+                    publisher.send(b"x\n")
+                    same("what its publisher is told", publisher.last_lines(), [b'{"at":1,"error":"not-json"}\n'])
             rests(region.process.pid, "with words that nobody takes")
             os.set_blocking(ours, False)
             os.read(ours, 1 << 20)

@@ -11,9 +11,9 @@ from collections.abc import Iterator
 
 from common.served import SECONDS, Client, row_of, same
 from serving.staying import Staying, key_of, messages, until
-from serving.writers import Writer, made, said_of_faults, socket_in
+from serving.publishers import Publisher, made, said_of_faults, socket_in
 
-# Of how many streams how many writers are at fault: as many as are told in a minute. Each but the first of a stream gives two lines:
+# Of how many streams how many publishers are at fault: as many as are told in a minute. Each but the first of a stream gives two lines:
 # more than the mailbox and a pipe of so many bytes hold.
 STREAMS, AT_FAULT, PIPE = 16, 60, 4_096
 DROPPED = re.compile(rb"pnuts: (\d+) lines were dropped")
@@ -50,9 +50,9 @@ def check_many_words(program: str, folder: str) -> None:
     with open(ours, "rb"), Staying(program, folder, streams, errors=theirs) as region:
         os.close(theirs)
         for path in paths * AT_FAULT:
-            with Writer(path) as writer:
-                writer.send(b"x\n")
-                same("what a writer is told", writer.last_lines(), [b'{"after":0}\n', b'{"at":1,"error":"not-json"}\n'])
+            with Publisher(path) as publisher:
+                publisher.send(b"x\n")
+                same("what a publisher is told", publisher.last_lines(), [b'{"after":0}\n', b'{"at":1,"error":"not-json"}\n'])
         wanted = STREAMS * (2 * AT_FAULT - 1)
         lines = read_all(ours, wanted)
         dropped = sum(int(found[1]) for line in lines if (found := DROPPED.fullmatch(line)))
@@ -77,15 +77,15 @@ def little_memory(region: Staying) -> Iterator[None]:
         resource.prlimit(process, resource.RLIMIT_DATA, before)
 
 
-def fill(writer: Writer) -> None:
+def fill(publisher: Publisher) -> None:
     """Sends more than there is memory for."""
     for at in range(1, FILLED + 1):
-        writer.send(BIG % (at, TEXT, TEXT, at))
+        publisher.send(BIG % (at, TEXT, TEXT, at))
 
 
-def take_up_to(writer: Writer, last: int) -> None:
-    """Waits until a writer is told that all was taken up to a position."""
-    while writer.taken() < last:
+def take_up_to(publisher: Publisher, last: int) -> None:
+    """Waits until a publisher is told that all was taken up to a position."""
+    while publisher.taken() < last:
         pass
 
 
@@ -101,22 +101,22 @@ def goes_on(region: Staying) -> bool:
 
 
 def check_little_memory(program: str, folder: str) -> None:
-    """Where no memory is left a stream or a round waits, what was taken is shown, and once there is some the same writer is read on."""
+    """Where no memory is left a stream or a round waits, what was taken is shown, and once there is some the same publisher is read on."""
     (path, west), (at, east) = made(folder, "west"), socket_in(folder)
     with Staying(program, folder, [east, west], threads=2) as region, Client(region.port) as client:
         with open(path, "wb", buffering=0) as pipe:
             pipe.write(messages(1, 1))
         client.wait_for(key_of(1), row_of(key_of(1), 0, "x"))
-        with Writer(at) as writer:
-            same("what was taken before", writer.begin(), 0)
-            filling = threading.Thread(target=fill, args=(writer,), daemon=True)
+        with Publisher(at) as publisher:
+            same("what was taken before", publisher.begin(), 0)
+            filling = threading.Thread(target=fill, args=(publisher,), daemon=True)
             with little_memory(region):
                 filling.start()
                 until("a stream or a round waits", lambda: waiting_in(region) != set())
                 same("a record that is there", client.read(key_of(1)), {"row": row_of(key_of(1), 0, "x")})
                 time.sleep(LOOKED)
-                same("whether the writer still waits", filling.is_alive(), True)
-            take_up_to(writer, FILLED)
+                same("whether the publisher still waits", filling.is_alive(), True)
+            take_up_to(publisher, FILLED)
             until("what waited goes on", lambda: goes_on(region))
         with open(path, "wb", buffering=0) as pipe:
             pipe.write(messages(2, 1))
@@ -142,33 +142,33 @@ def rests(region: Staying, when: str) -> None:
 
 
 def check_streams_at_rest(program: str, folder: str) -> None:
-    """Sixteen streams that wait, that have silent writers, half a line each, and whose writers went: a region hardly ever wakes up."""
+    """Sixteen streams that wait, that have silent publishers, half a line each, and whose publishers went: a region hardly ever wakes up."""
     sockets = [socket_in(folder, f"s{at}") for at in range(8)]
     fifos = [made(folder, f"f{at}") for at in range(8)]
     streams = [stream for _, stream in sockets + fifos]
     with Staying(program, folder, streams) as region, contextlib.ExitStack() as stay:
         time.sleep(1)
-        rests(region, "without a writer")
-        writers = [stay.enter_context(Writer(path)) for path, _ in sockets]
+        rests(region, "without a publisher")
+        publishers = [stay.enter_context(Publisher(path)) for path, _ in sockets]
         pipes = [stay.enter_context(open(path, "wb", buffering=0)) for path, _ in fifos]
-        for writer, pipe in zip(writers, pipes):
-            writer.send(messages(1, 100) + messages(101, 1)[:30])
+        for publisher, pipe in zip(publishers, pipes):
+            publisher.send(messages(1, 100) + messages(101, 1)[:30])
             pipe.write(messages(1, 100) + messages(101, 1)[:30])
-        for writer in writers:
-            same("what a writer is told first", writer.begin(), 0)
-            while writer.taken() < 100:
+        for publisher in publishers:
+            same("what a publisher is told first", publisher.begin(), 0)
+            while publisher.taken() < 100:
                 pass
         time.sleep(1)
-        rests(region, "with silent writers")
+        rests(region, "with silent publishers")
         # Others wait until the silent ones have gone.
         for path, _ in sockets:
             stay.enter_context(socket.socket(socket.AF_UNIX)).connect(path)
-        rests(region, "with writers that wait")
+        rests(region, "with publishers that wait")
         for pipe in pipes:
             pipe.close()
-        for writer in writers:
-            writer.socket.close()
+        for publisher in publishers:
+            publisher.socket.close()
         until("it says of all FIFOs that they ended", lambda: region.said().count(b" ended\n") >= len(pipes), SECONDS)
         time.sleep(1)
-        rests(region, "whose writers went")
+        rests(region, "whose publishers went")
         same("what is said of faults", said_of_faults(region), [])

@@ -8,7 +8,7 @@ import time
 from common.served import Client, in_time, row_of, same, seconds_of, written
 from serving.staying import Staying, key_of, messages, until
 from serving.stream_fifos import opens, wait_for
-from serving.writers import Writer, made, said_of_faults, socket_in, written_by
+from serving.publishers import Publisher, made, said_of_faults, socket_in, written_by
 
 # Within how many seconds a region listens again, and how often its path is removed.
 AGAIN, TIMES = 1.0, 5
@@ -32,7 +32,7 @@ def again(path: str, idle: float, what: str) -> None:
 
 
 def check_removed_sockets(program: str, folder: str) -> None:
-    """A stream's socket whose path is removed or renamed is there again within a second, which is said, with its mode; the next writer goes on."""
+    """A stream's socket whose path is removed or renamed is there again within a second, which is said, with its mode; the next publisher goes on."""
     path, east = socket_in(folder)
     with Staying(program, folder, [east]) as region, Client(region.port) as client:
         idle, has = seconds_of(lambda: client.read("k")), 0
@@ -51,24 +51,24 @@ def check_removed_sockets(program: str, folder: str) -> None:
         same("what is said of faults", said_of_faults(region), [])
 
 
-def check_a_socket_that_is_removed_under_its_writer(program: str, folder: str) -> None:
-    """A writer whose socket's path goes is read on; the next one, which waits or comes later, is taken once it has gone."""
+def check_a_socket_that_is_removed_under_its_publisher(program: str, folder: str) -> None:
+    """A publisher whose socket's path goes is read on; the next one, which waits or comes later, is taken once it has gone."""
     path, east = socket_in(folder)
     with Staying(program, folder, [east]) as region, Client(region.port) as client:
         idle = seconds_of(lambda: client.read("k"))
-        with Writer(path) as writer, Writer(path) as waits:
-            same("what it has", writer.begin(), 0)
-            writer.send(messages(1, 5))
+        with Publisher(path) as publisher, Publisher(path) as waits:
+            same("what it has", publisher.begin(), 0)
+            publisher.send(messages(1, 5))
             wait_for(client, 5)
             os.remove(path)
-            writer.send(messages(6, 5))
+            publisher.send(messages(6, 5))
             wait_for(client, 10)
             time.sleep(AGAIN)
-            writer.send(messages(11, 5))
+            publisher.send(messages(11, 5))
             wait_for(client, 15)
-            writer.socket.close()
+            publisher.socket.close()
             waits.socket.close()
-            again(path, idle, "once its writer has gone")
+            again(path, idle, "once its publisher has gone")
         written_by(path, messages(16, 2), 15)
         wait_for(client, 17)
         same("what is said of faults", said_of_faults(region), [])
@@ -104,7 +104,7 @@ def check_a_path_of_others(program: str, folder: str) -> None:
 
 
 def check_fifos_made_anew(program: str, folder: str) -> None:
-    """A FIFO whose path is removed and made anew is opened again, which is said, whether it has a writer then or had one before."""
+    """A FIFO whose path is removed and made anew is opened again, which is said, whether it has a publisher then or had one before."""
     path, east = made(folder)
     with Staying(program, folder, [east]) as region, Client(region.port) as client:
         until("it has opened the FIFO", lambda: opens(path))
@@ -134,7 +134,7 @@ def make_file(path: str) -> None:
 
 
 def check_fifos_whose_paths_change(program: str, folder: str) -> None:
-    """A FIFO whose path goes, or becomes a file or a folder, is read to the end of its writer; the file is not read, nothing spins, and a FIFO
+    """A FIFO whose path goes, or becomes a file or a folder, is read to the end of its publisher; the file is not read, nothing spins, and a FIFO
     that is there later is opened."""
     path, east = made(folder)
     with Staying(program, folder, [east]) as region, Client(region.port) as client:

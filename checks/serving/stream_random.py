@@ -1,4 +1,4 @@
-"""Random writers of a stream beside a plain model of what they are told and what they leave: checks of `checks/run streams`."""
+"""Random publishers of a stream beside a plain model of what they are told and what they leave: checks of `checks/run streams`."""
 import contextlib
 import json
 import random
@@ -10,7 +10,7 @@ from dataclasses import dataclass
 from common.served import Client, Json, same
 from serving.staying import Staying, until
 from serving.stream_faults import faults_at, line_of
-from serving.writers import Writer, failed, said_of_faults, socket_in
+from serving.publishers import Publisher, failed, said_of_faults, socket_in
 
 WRITERS, LIVES, MOST, BACK, JUNK = 1_000, 50, 30, 30, 400_000
 # Lives that are tried each time, by their seeds.
@@ -53,7 +53,7 @@ def records_of(last: int) -> Records:
 
 @dataclass
 class Life:
-    """What a writer sends, the reason that it is told and said, and the last position that the region has then."""
+    """What a publisher sends, the reason that it is told and said, and the last position that the region has then."""
 
     text: bytes
     reason: bytes | None
@@ -62,7 +62,7 @@ class Life:
 
 
 def random_life(rng: random.Random, has: int) -> Life:
-    """A writer's messages in step from any position that it may begin at, and then half a line, a fault, or its end."""
+    """A publisher's messages in step from any position that it may begin at, and then half a line, a fault, or its end."""
     count = rng.choice([0, rng.randint(1, MOST)])
     first = rng.choice([has + 1, rng.randint(max(1, has - BACK), has + 1), 1 if has < 10 * BACK else has])
     wanted = first + count if count else has + 1
@@ -91,25 +91,25 @@ def pieces_of(rng: random.Random, text: bytes) -> Iterable[bytes]:
 
 
 def live(rng: random.Random, path: str, has: int, life: Life) -> None:
-    """Sends what a writer sends. Some hear the region out, and some go at once."""
-    with Writer(path) as writer:
+    """Sends what a publisher sends. Some hear the region out, and some go at once."""
+    with Publisher(path) as publisher:
         begins = rng.random() < 0.5
         if begins:
-            same("what the region has", writer.begin(), has)
+            same("what the region has", publisher.begin(), has)
         with contextlib.suppress(ConnectionError):
             for piece in pieces_of(rng, life.text):
-                writer.send(piece)
+                publisher.send(piece)
         if life.reason is None and rng.random() < 0.5:
             return
         if not begins:
-            same("what the region has", writer.begin(), has)
+            same("what the region has", publisher.begin(), has)
         with contextlib.suppress(OSError):
-            writer.socket.shutdown(socket.SHUT_WR)
-        same("what a writer is told", writer.last_lines(), [life.reason] if life.reason else [])
+            publisher.socket.shutdown(socket.SHUT_WR)
+        same("what a publisher is told", publisher.last_lines(), [life.reason] if life.reason else [])
 
 
 def live_on(program: str, folder: str, lives: Iterable[int]) -> None:
-    """Writers of these seeds, one after another, at a region of their own; 0 is none."""
+    """Publishers of these seeds, one after another, at a region of their own; 0 is none."""
     path, east = socket_in(folder)
     has, said = 0, list[bytes]()
     with Staying(program, folder, [east], "--bounds", '["k2"]') as region, Client(region.port) as client:
@@ -118,8 +118,8 @@ def live_on(program: str, folder: str, lives: Iterable[int]) -> None:
             live(rng, path, has, life)
             has = life.after
             said += [life.said] if life.said else []
-        with Writer(path) as writer:
-            same("what the region has after all", writer.begin(), has)
+        with Publisher(path) as publisher:
+            same("what the region has after all", publisher.begin(), has)
         until(f"all {len(said)} faults are said", lambda: len(said_of_faults(region)) >= len(said))
         same("what is said", said_of_faults(region), said)
         for key, (number, contents) in records_of(has).items():
@@ -128,8 +128,8 @@ def live_on(program: str, folder: str, lives: Iterable[int]) -> None:
             same(f"the contents of {key}", sorted(map(sorted_json, row["contents"])), sorted(contents))
 
 
-def check_random_writers(program: str, cases: int | None, seed: int) -> None:
-    """A thousand random writers, fifty after one another: each is told what a plain model says, and what they leave is what it says, too."""
+def check_random_publishers(program: str, cases: int | None, seed: int) -> None:
+    """A thousand random publishers, fifty after one another: each is told what a plain model says, and what they leave is what it says, too."""
     from common.drawn import seeds, try_drawn
     def agree(lives: list[int]) -> None:
         with tempfile.TemporaryDirectory() as folder:

@@ -1,4 +1,4 @@
-"""Where a stream's socket is, who may write, and what writers cost: checks of `checks/run streams`."""
+"""Where a stream's socket is, who may write, and what publishers cost: checks of `checks/run streams`."""
 import array
 import fcntl
 import os
@@ -11,11 +11,11 @@ import time
 
 from common.served import SECONDS, Client, fifo, free_port, message, row_of, same, written
 from serving.staying import Staying, key_of, messages, until
-from serving.writers import Writer, said_of_faults, socket_in, wait_for_after, written_by
+from serving.publishers import Publisher, said_of_faults, socket_in, wait_for_after, written_by
 
 UMASK = 0o022
 WARM, MANY, LEAK_KB = 500, 10_000, 1_024
-# How long a writer waits in vain.
+# How long a publisher waits in vain.
 VAIN = 1.0
 
 
@@ -68,12 +68,12 @@ def check_without_staying(program: str, folder: str) -> None:
     same("whether a socket is there", os.path.exists(path), False)
 
 
-def check_two_writers(program: str, folder: str) -> None:
-    """Of three writers at once one is taken, and the next one when it has gone, or was refused, from what the region has then."""
+def check_two_publishers(program: str, folder: str) -> None:
+    """Of three publishers at once one is taken, and the next one when it has gone, or was refused, from what the region has then."""
     path, east = socket_in(folder)
-    with Staying(program, folder, [east]) as region, Writer(path) as first:
+    with Staying(program, folder, [east]) as region, Publisher(path) as first:
         same("what the first is told", first.begin(), 0)
-        with Writer(path) as second, Writer(path) as third:
+        with Publisher(path) as second, Publisher(path) as third:
             first.send(messages(1, 5))
             same("whether others are taken meanwhile", [one.is_taken(VAIN / 2) for one in (second, third)], [False, False])
             first.socket.close()
@@ -95,15 +95,15 @@ def unread(connection: socket.socket) -> int:
     return found[0]
 
 
-def check_deaf_writer(program: str, folder: str) -> None:
-    """A writer that reads nothing, for so long that no more can be told it, is read on, and holds up nobody.
+def check_deaf_publisher(program: str, folder: str) -> None:
+    """A publisher that reads nothing, for so long that no more can be told it, is read on, and holds up nobody.
 
     Once it reads, it is told how far the region is in the end; and the next one is taken.
     """
     path, east = socket_in(folder)
     west, (_, other) = socket_in(folder, "west")
-    with Staying(program, folder, [east, ("west", other)]) as region, Client(region.port) as client, Writer(path) as deaf, Writer(west) as writer:
-        deaf.look(), writer.begin()
+    with Staying(program, folder, [east, ("west", other)]) as region, Client(region.port) as client, Publisher(path) as deaf, Publisher(west) as publisher:
+        deaf.look(), publisher.begin()
         at, told, since = 0, 0, time.monotonic()
         # The system keeps some hundred short lines for it, of which there are ten a second.
         while time.monotonic() < since + 2 * VAIN:
@@ -116,8 +116,8 @@ def check_deaf_writer(program: str, folder: str) -> None:
         deaf.send(messages(at + 1, 5_000))
         last = at + 5_000
         client.wait_for(key_of(last), row_of(key_of(last), last // 100, "x"))
-        writer.send(message(1, "west", 0, "x"))
-        same("what another stream's writer is told", writer.taken(), 1)
+        publisher.send(message(1, "west", 0, "x"))
+        same("what another stream's publisher is told", publisher.taken(), 1)
         same("what it reads first in the end", deaf.begin(), 0)
         while deaf.taken() != last:
             pass
@@ -128,26 +128,26 @@ def check_deaf_writer(program: str, folder: str) -> None:
 
 
 def come_and_go(path: str, at: int, has: int) -> int:
-    """A writer that goes in one of eight ways. What the region has then."""
+    """A publisher that goes in one of eight ways. What the region has then."""
     way, reset = at % 8, struct.pack("ii", 1, 0)
-    with Writer(path) as writer:
+    with Publisher(path) as publisher:
         if way == 0:
             return has
         if way in (1, 2):
-            same("what the region has", writer.look(), has)
+            same("what the region has", publisher.look(), has)
         else:
-            same("what the region has", writer.begin(), has)
+            same("what the region has", publisher.begin(), has)
         if way == 3:
-            writer.socket.setsockopt(socket.SOL_SOCKET, socket.SO_LINGER, reset)
+            publisher.socket.setsockopt(socket.SOL_SOCKET, socket.SO_LINGER, reset)
         text = {4: b"x\n", 5: messages(has + 2, 1), 6: messages(has + 1, 3)[:-20], 7: b" " * 30_000}.get(way, messages(has + 1, 1))
-        writer.send(text)
+        publisher.send(text)
         if way in (4, 5):
-            same("how many lines a fault has", len(writer.last_lines()), 1)
+            same("how many lines a fault has", len(publisher.last_lines()), 1)
         return has + {4: 0, 5: 0, 6: 2, 7: 0}.get(way, 1)
 
 
-def check_many_writers(program: str, folder: str) -> None:
-    """Ten thousand writers come and go, each in one of eight ways: neither a descriptor nor memory is left of them."""
+def check_many_publishers(program: str, folder: str) -> None:
+    """Ten thousand publishers come and go, each in one of eight ways: neither a descriptor nor memory is left of them."""
     path, east = socket_in(folder)
     with Staying(program, folder, [east]) as region:
         has = 0
@@ -158,12 +158,12 @@ def check_many_writers(program: str, folder: str) -> None:
         for at in range(MANY):
             has = come_and_go(path, at, has)
         took = time.monotonic() - start
-        print(f"  {MANY:,} writers in {took:.1f} s")
+        print(f"  {MANY:,} publishers in {took:.1f} s")
         region.same_rest(before, "once they have gone", LEAK_KB)
 
 
 def check_listens_at_once(program: str, folder: str) -> None:
-    """Streams whose FIFO or socket has no writer yet hold up neither the listening nor the other streams."""
+    """Streams whose FIFO or socket has no publisher yet hold up neither the listening nor the other streams."""
     path, east = socket_in(folder)
     silent = os.path.join(folder, "silent")
     os.mkfifo(silent)

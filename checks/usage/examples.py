@@ -10,7 +10,7 @@ from collections.abc import Iterator
 from common.crates import TOP
 from common.served import SECONDS, same
 from serving.staying import Staying
-from serving.writers import Writer, socket_in
+from serving.publishers import Publisher, socket_in
 
 INDENT = "    "
 FIRST = '{"at":1,"image":{"fields":{"v":"x"},"key":"k","master":"w","version":[1,0]}}\n'
@@ -48,10 +48,10 @@ def region(program: str, folder: str) -> Staying:
 
 def give_first(folder: str) -> None:
     """Gives the region the one record that the examples have."""
-    with Writer(socket_in(folder)[0]) as writer:
-        same("what the region has", writer.begin(), 0)
-        writer.send(FIRST.encode())
-        same("what is taken", writer.taken(), 1)
+    with Publisher(socket_in(folder)[0]) as publisher:
+        same("what the region has", publisher.begin(), 0)
+        publisher.send(FIRST.encode())
+        same("what is taken", publisher.taken(), 1)
 
 
 def check_lines(program: str, folder: str) -> None:

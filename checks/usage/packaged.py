@@ -112,7 +112,7 @@ def check_serving(system: System) -> str:
     system.wait_for("active", "systemctl", "is-active", "pnuts")
     system.wait_for("socket pnuts:pnuts 660", "stat", "--format=%F %U:%G %a", SOCKET)
     write = f"echo {shlex.quote(message(1, 'k', 0, 'x').decode().strip())} | "
-    same("what is told the writer first", system.run("bash", "-c", f"{write} runuser -u pnuts -- {WRITE}")[:9], '{"after":')
+    same("what is told the publisher first", system.run("bash", "-c", f"{write} runuser -u pnuts -- {WRITE}")[:9], '{"after":')
     for group, may in (("pnuts", True), ("nogroup", False)):
         other = f"{write} setpriv --reuid=nobody --regid={group} --clear-groups {WRITE}"
         same(f"whether the group {group} may write", "Permission denied" not in system.status("bash", "-c", other)[1], may)

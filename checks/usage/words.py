@@ -2,7 +2,7 @@
 
   checks/run words
 
-Commands, members, refusals, options and the reasons that writers of streams are told are read off the sources. Each has to stand
+Commands, members, refusals, options and the reasons that publishers of streams are told are read off the sources. Each has to stand
 in the pages of docs/ that it is for; commands also in README.md, the slow program and, with their members, the fuzzer's words; what sessions
 have, by the table of commands, with its members in clients/README.md and in each client; what control sessions have besides in the client
 for Python.
@@ -23,7 +23,7 @@ ROW = re.compile(r"CommandWord::(\w+) => row\(\s*CommandUsers::(\w+),\s*LineKind
 # What control sessions have besides, and the members of that.
 CONTROL = re.compile(r'"(\w+)" => Some\(ControlWord::(\w+)\)')
 CONTROL_ROW = re.compile(r"ControlWord::(\w+) => &\[([^\]]*)\]")
-MEMBER = re.compile(r'(?:Part|Member)::\w+ => "(\w+)"')
+MEMBER = re.compile(r'(?:MemberName|Member)::\w+ => "(\w+)"')
 ERROR = r'\\?"error\\?":\\?"([a-z-]+)'
 REFUSAL = re.compile(rf'\b\w+_(?:error|reply)\(\s*alloc,\s*"([a-z-]+)"|{ERROR}')
 REASON = re.compile(rf'\b(?:Stream|Image)Fault::\w+[^\n]* => "([a-z-]+)"|{ERROR}')

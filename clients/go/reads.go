@@ -3,6 +3,8 @@ package pnuts
 import (
 	"context"
 	"encoding/json"
+	"os"
+	"path/filepath"
 )
 
 const (
@@ -161,4 +163,80 @@ func together(count int, do func(int) error) error {
 		}
 	}
 	return fault
+}
+
+// A Scanner goes over the records of a query in key order, as long as Next says that there is one. Err says why not.
+type Scanner struct {
+	ctx context.Context
+	// What is still asked of regions.
+	parts []part
+	// The records of the page, from the one on that Next went to.
+	records []*Record
+	err     error
+}
+
+// A part is what a query asks of one region.
+type part struct {
+	client *Client
+	query  Query
+}
+
+// Next goes to the next record, of the next page where need be, and says whether there is one.
+func (s *Scanner) Next() bool {
+	if len(s.records) > 0 {
+		s.records = s.records[1:]
+	}
+	for len(s.records) == 0 && len(s.parts) > 0 && s.err == nil {
+		page, err := s.parts[0].client.Page(s.ctx, s.parts[0].query)
+		s.records, s.err = page.Records, err
+		if page.Next != nil {
+			s.parts[0].query = *page.Next
+		} else {
+			s.parts = s.parts[1:]
+		}
+	}
+	return len(s.records) > 0
+}
+
+// Record is the record that Next went to.
+func (s *Scanner) Record() *Record { return s.records[0] }
+
+// Err is why there is no next record, nil after the last.
+func (s *Scanner) Err() error { return s.err }
+
+// A reply to one of the lookups, in whose members null is nil.
+type reply struct {
+	Row  *Record
+	Rows []*Record
+	Next *struct{ After string }
+}
+
+// without is a reply in which a row and a next page are missing. That is neither null nor a row or a page.
+func without() reply { return reply{Row: &Record{}, Next: &struct{ After string }{}} }
+
+func (r reply) hasRow() bool { return r.Row.isRow() }
+
+func (r reply) hasRows() bool {
+	for _, row := range r.Rows {
+		if !row.isRow() {
+			return false
+		}
+	}
+	return r.Rows != nil
+}
+
+func (r reply) isPage() bool { return r.hasRows() && (r.Next == nil || r.Next.After != "") }
+
+// writeWhole writes a file beside the path, and moves it there.
+func writeWhole(path string, text []byte) error {
+	file, err := os.CreateTemp(filepath.Dir(path), "."+filepath.Base(path)+".")
+	if err != nil {
+		return err
+	}
+	defer os.Remove(file.Name())
+	file.Close()
+	if err = os.WriteFile(file.Name(), text, 0o600); err != nil {
+		return err
+	}
+	return os.Rename(file.Name(), path)
 }

@@ -133,7 +133,7 @@ export interface StreamStats {
   readonly since: number | null;
   readonly reason: string | null;
   readonly line: number | null;
-  /** Whose stream a writer said it is, and the broker's newest position that one told, `heard` seconds ago; null where none did. */
+  /** Whose stream a publisher said it is, and the broker's newest position that one told, `heard` seconds ago; null where none did. */
   readonly stream?: string | null;
   readonly newest?: number | null;
   readonly heard?: number | null;

@@ -133,7 +133,7 @@ class RegionSocket:
         return self._socket
 
     def _connect(self) -> int:
-        """Waits for the region's first words: it takes one writer at a time."""
+        """Waits for the region's first words: it takes one publisher at a time."""
         self._rest, self._has_begun, self._told_at = b"", False, float("-inf")
         self._socket = socket.socket(socket.AF_UNIX)
         self._socket.connect(self._path)

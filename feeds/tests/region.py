@@ -1,21 +1,25 @@
-"""Stands in for a region that takes a stream on a socket: it says what it has, and looks at the order of what comes."""
+"""A region that takes a stream on a socket: one that stands in for it and looks at the order of what comes, or the program, where PNUTS names it."""
 
 from __future__ import annotations
 
 import json
+import os
 import select
 import socket
+import subprocess
 import threading
 import time
+import unittest
 from pathlib import Path
 
-from .support import image
+from .support import image, wait_until
+
 
 TOLD_EVERY = 0.1
 
 
 class Region:
-    """Takes one writer after another. What comes has to be the image of its position."""
+    """Takes one publisher after another. What comes has to be the image of its position."""
 
     def __init__(self, path: Path, has: int = 0, *, refuses: int = 0, slow: bool = False) -> None:
         self.path = path
@@ -23,8 +27,8 @@ class Region:
         self.has = has
         self.again = 0
         self.faults: list[str] = []
-        self.writers = 0
-        # Whose stream writers said they give, and the newest positions that they told, with the times.
+        self.publishers = 0
+        # Whose stream publishers said they give, and the newest positions that they told, with the times.
         self.streams: list[str] = []
         self.newest: list[tuple[float, int]] = []
         self._refuses = refuses
@@ -43,7 +47,7 @@ class Region:
         self._thread.start()
 
     def stop(self) -> None:
-        """Goes, without a reason and wherever the writer is."""
+        """Goes, without a reason and wherever the publisher is."""
         self._stops = True
         self.path.unlink(missing_ok=True)
         for one in (self._listener, self._connection):
@@ -62,19 +66,19 @@ class Region:
             except OSError:
                 return
             with self._connection:
-                self.writers += 1
+                self.publishers += 1
                 try:
                     self._take_all(self._connection)
                 except OSError:
                     pass
 
-    def _take_all(self, writer: socket.socket) -> None:
-        """Takes a writer's lines until it goes or is refused."""
+    def _take_all(self, publisher: socket.socket) -> None:
+        """Takes a publisher's lines until it goes or is refused."""
         last, rest, told, is_first = 0, b"", time.monotonic(), True
-        writer.sendall(b'{"after":%d}\n' % self.has)
+        publisher.sendall(b'{"after":%d}\n' % self.has)
         while not self._stops:
-            if select.select([writer], [], [], TOLD_EVERY)[0]:
-                if not (part := writer.recv(1_000 if self._slow else 65_536)):
+            if select.select([publisher], [], [], TOLD_EVERY)[0]:
+                if not (part := publisher.recv(1_000 if self._slow else 65_536)):
                     return
                 *lines, rest = (rest + part).split(b"\n")
                 for line in lines:
@@ -83,16 +87,16 @@ class Region:
                         continue
                     last, reason = self._take(line, last)
                     if reason:
-                        writer.sendall(json.dumps(reason, separators=(",", ":")).encode() + b"\n")
+                        publisher.sendall(json.dumps(reason, separators=(",", ":")).encode() + b"\n")
                         return
             if self._slow:
                 time.sleep(0.002)
             if time.monotonic() - told >= TOLD_EVERY and self._told != self.has:
                 self._told, told = self.has, time.monotonic()
-                writer.sendall(b'{"taken":%d}\n' % self.has)
+                publisher.sendall(b'{"taken":%d}\n' % self.has)
 
     def _hear(self, line: bytes, is_first: bool) -> bool:
-        """Whether a line is what a writer says of its stream."""
+        """Whether a line is what a publisher says of its stream."""
         if line.startswith(b'{"stream":'):
             self.streams.append(json.loads(line)["stream"])
             if not is_first:
@@ -122,3 +126,46 @@ class Region:
         return position, None
 
 
+class ProgramRegion:
+    """A region of one stream, which begins without a record whenever it is started."""
+
+    def __init__(self, folder: Path) -> None:
+        program = os.environ.get("PNUTS")
+        if not program:
+            raise unittest.SkipTest("PNUTS names no program")
+        self.path = folder / "east"
+        self._sessions = folder / "sessions"
+        self._errors = folder / "errors"
+        self._words = [program, "serve", "--stay", "--socket", str(self._sessions), f"east=listen:{self.path}"]
+        self.start()
+
+    def start(self) -> None:
+        """Starts the program, and waits until it listens."""
+        with self._errors.open("ab") as errors:
+            self._process = subprocess.Popen(self._words, stdout=subprocess.PIPE, stderr=errors)
+        assert self._process.stdout is not None
+        self._process.stdout.readline()
+
+    def kill(self) -> None:
+        """Kills the program."""
+        self._process.kill()
+        self._process.wait()
+        assert self._process.stdout is not None
+        self._process.stdout.close()
+
+    def said(self) -> str:
+        """What it has said on standard error."""
+        return self._errors.read_text(encoding="utf-8")
+
+    def has(self, position: int) -> bool:
+        """Whether the record of this position is there."""
+        with socket.socket(socket.AF_UNIX) as session:
+            session.settimeout(30)
+            session.connect(str(self._sessions))
+            session.sendall(json.dumps({"do": "read", "key": f"k{position}"}).encode() + b"\n")
+            with session.makefile("rb") as replies:
+                return json.loads(replies.readline())["row"] is not None
+
+    def wait_for(self, position: int) -> None:
+        """Until the record of this position is there."""
+        wait_until(lambda: self.has(position), 120)

@@ -12,8 +12,7 @@ from collections.abc import Iterator, Sequence
 from contextlib import AbstractContextManager, ExitStack, contextmanager
 from pathlib import Path
 
-from .program import ProgramRegion
-from .region import Region
+from .region import ProgramRegion, Region
 from .support import FEEDS, image, wait_until
 
 # How many images a feed is killed and begun anew among.
@@ -114,7 +113,7 @@ class Resuming(unittest.TestCase):
                 with self.feed(region) as program:
                     self.wait_for(region, program, part * IMAGES // 10)
             self.assertEqual(region.has, IMAGES)
-            self.assertGreater(region.writers, 2)
+            self.assertGreater(region.publishers, 2)
             self.assertLessEqual(region.again, MOST_AGAIN)
             print(f"{self.words[0]}: {region.again} of {IMAGES} images came again", flush=True)
 
@@ -182,7 +181,7 @@ class Resuming(unittest.TestCase):
         self.fill(1, 4_000)
         with self.region(slow=True) as region, self.feed(region) as program:
             self.wait_for(region, program, 4_000)
-            self.assertEqual((region.again, region.writers), (0, 1))
+            self.assertEqual((region.again, region.publishers), (0, 1))
 
     def test_a_region_that_is_not_there_yet(self) -> None:
         self.fill(1, 3)
@@ -207,11 +206,11 @@ class Resuming(unittest.TestCase):
             self.wait_for(region, first, 300)
             second = stay.enter_context(self.feed(region))
             time.sleep(0.5)
-            self.assertEqual(region.writers, 1)
+            self.assertEqual(region.publishers, 1)
             first.kill()
             self.fill(301, 5)
             self.wait_for(region, second, 305)
-            self.assertEqual((region.again, region.writers), (0, 2))
+            self.assertEqual((region.again, region.publishers), (0, 2))
 
     def test_a_body_that_is_no_json_at_a_socket(self) -> None:
         self.fill(1, 2)

@@ -18,7 +18,7 @@ from feed.sockets import RegionSocket
 
 from .region import Region
 from .support import wait_until
-from .test_sockets import Scripted
+from .test_sockets import FakeBroker
 
 
 # A file of which nothing is known.
@@ -134,7 +134,7 @@ class Written(unittest.TestCase):
             self.addCleanup(region.stop)
             figures = Figures(str(path), lambda _: None)
             figures.begin()
-            self.assertEqual(run("scripted", Scripted(9), RegionSocket(str(region.path), lambda _: None), None, figures), 1)
+            self.assertEqual(run("scripted", FakeBroker(9), RegionSocket(str(region.path), lambda _: None), None, figures), 1)
             before = json.loads(path.read_bytes())["at"]
             wait_until(lambda: bool(json.loads(path.read_bytes())["at"] > before))
             told = json.loads(path.read_bytes())
@@ -148,7 +148,7 @@ class Other(unittest.TestCase):
 
     def ended(self, region: Region, path: Path, **changed: Any) -> tuple[int, str]:
         """The status of a feed of a stream that says these things of itself, and what it says."""
-        source, said = Scripted(9), io.StringIO()
+        source, said = FakeBroker(9), io.StringIO()
         for name, value in changed.items():
             setattr(source, name, value)
         figures = Figures(str(path), lambda _: None)

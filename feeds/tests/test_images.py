@@ -18,7 +18,7 @@ from feed.running import run
 from feed.sockets import RegionSocket
 
 from .region import Region
-from .test_sockets import Scripted
+from .test_sockets import FakeBroker
 
 RIGHT: dict[str, Any] = {"fields": {"n": -5, "v": "x"}, "key": "k", "master": "w", "version": [1, 0]}
 GONE: dict[str, Any] = {"deleted": True, "key": "k", "master": "w", "version": [1, 0]}
@@ -108,5 +108,5 @@ class Images(unittest.TestCase):
             region, said = Region(Path(folder, "east"), 3, refuses=7), io.StringIO()
             self.addCleanup(region.stop)
             with redirect_stderr(said), unittest.mock.patch("tests.test_sockets.image", lambda number: b'{"fields":{"age":[]},"key":"k%d"}' % number):
-                run("scripted", Scripted(9), RegionSocket(str(region.path), lambda _: None))
+                run("scripted", FakeBroker(9), RegionSocket(str(region.path), lambda _: None))
             self.assertIn("\"member\":\"fields\"}: fields: the field 'age' is no text", said.getvalue())

@@ -28,17 +28,17 @@ class Sockets(unittest.TestCase):
         self.path = Path(folder.name, "east")
         self.told: list[str] = []
 
-    def listens(self, *writers: Callable[[socket.socket], None]) -> RegionSocket:
-        """A region that does this with one writer after another, and then goes."""
+    def listens(self, *publishers: Callable[[socket.socket], None]) -> RegionSocket:
+        """A region that does this with one publisher after another, and then goes."""
         listener = socket.socket(socket.AF_UNIX)
         listener.bind(str(self.path))
         listener.listen()
 
         def serve() -> None:
             with listener:
-                for do in writers:
-                    with listener.accept()[0] as writer:
-                        do(writer)
+                for do in publishers:
+                    with listener.accept()[0] as publisher:
+                        do(publisher)
 
         thread = threading.Thread(target=serve, daemon=True)
         thread.start()
@@ -50,10 +50,10 @@ class Sockets(unittest.TestCase):
     def test_what_it_has_and_takes(self) -> None:
         go = threading.Event()
 
-        def do(writer: socket.socket) -> None:
+        def do(publisher: socket.socket) -> None:
             for part in (b'{"aft', b'er":', b"7}\n"):
-                writer.sendall(part)
-            writer.sendall(b'{"taken":9}\n{"taken":8}\n{"more":1}\n{"taken":11}\n')
+                publisher.sendall(part)
+            publisher.sendall(b'{"taken":9}\n{"taken":8}\n{"more":1}\n{"taken":11}\n')
             go.wait(10)
 
         region = self.listens(do)
@@ -73,7 +73,7 @@ class Sockets(unittest.TestCase):
             (b'{"error":"memory"}', None),
         ):
             with self.subTest(reason):
-                region = self.listens(lambda writer, reason=reason: writer.sendall(b'{"after":7}\n' + reason + b"\n"))  # type: ignore[misc]
+                region = self.listens(lambda publisher, reason=reason: publisher.sendall(b'{"after":7}\n' + reason + b"\n"))  # type: ignore[misc]
                 with self.assertRaises(Refused) as refused:
                     region.begin()
                     region.pause(10)
@@ -81,13 +81,13 @@ class Sockets(unittest.TestCase):
                 self.path.unlink()
 
     def test_another_stream(self) -> None:
-        region = self.listens(lambda writer: writer.sendall(b'{"after":7}\n{"error":"other-stream","got":"a b","has":"c"}\n'))
+        region = self.listens(lambda publisher: publisher.sendall(b'{"after":7}\n{"error":"other-stream","got":"a b","has":"c"}\n'))
         with self.assertRaisesRegex(OtherStream, "takes the stream 'c', and this feed gives 'a b'"):
             region.begin()
             region.pause(10)
 
     def test_a_region_of_an_older_version(self) -> None:
-        region = self.listens(lambda writer: writer.sendall(b'{"after":7}\n{"at":8,"error":"bad-shape","member":"at"}\n'))
+        region = self.listens(lambda publisher: publisher.sendall(b'{"after":7}\n{"at":8,"error":"bad-shape","member":"at"}\n'))
         with self.assertRaisesRegex(Unusable, "of an older version"):
             region.begin()
             region.pause(10)
@@ -96,11 +96,11 @@ class Sockets(unittest.TestCase):
         """Whose it is comes first in each connection, in 256 bytes at most, and the newest position once a second at most."""
         came: list[bytes] = []
 
-        def do(writer: socket.socket) -> None:
-            writer.sendall(b'{"after":0}\n')
+        def do(publisher: socket.socket) -> None:
+            publisher.sendall(b'{"after":0}\n')
             read = bytearray()
             while not read.endswith(b"end\n"):
-                read.extend(writer.recv(65_536))
+                read.extend(publisher.recv(65_536))
             came.append(bytes(read))
 
         region = self.listens(do, do, do)
@@ -121,10 +121,10 @@ class Sockets(unittest.TestCase):
         self.assertEqual(came[2], b'{"newest":0}\nend\n')
 
     def test_a_reason_amid_much_that_is_written(self) -> None:
-        def do(writer: socket.socket) -> None:
-            writer.sendall(b'{"after":0}\n')
-            writer.recv(100)
-            writer.sendall(b'{"taken":1}\n{"at":2,"error":"not-json"}\n')
+        def do(publisher: socket.socket) -> None:
+            publisher.sendall(b'{"after":0}\n')
+            publisher.recv(100)
+            publisher.sendall(b'{"taken":1}\n{"at":2,"error":"not-json"}\n')
 
         region = self.listens(do)
         region.begin()
@@ -133,9 +133,9 @@ class Sockets(unittest.TestCase):
                 region.write(b"x" * 1_000_000)
 
     def test_a_region_that_goes_amid_much_that_is_written(self) -> None:
-        def do(writer: socket.socket) -> None:
-            writer.sendall(b'{"after":0}\n')
-            writer.recv(100)
+        def do(publisher: socket.socket) -> None:
+            publisher.sendall(b'{"after":0}\n')
+            publisher.recv(100)
 
         region = self.listens(do, do)
         for _ in range(2):
@@ -147,7 +147,7 @@ class Sockets(unittest.TestCase):
     def test_what_is_no_region(self) -> None:
         for first in (b"220 mail ready\n", b'{"ready":true}\n', b"[]\n", b'{"after":null}\n', b"x" * 100_000):
             with self.subTest(first[:20]):
-                region = self.listens(lambda writer, first=first: writer.sendall(first))  # type: ignore[misc]
+                region = self.listens(lambda publisher, first=first: publisher.sendall(first))  # type: ignore[misc]
                 with self.assertRaisesRegex(Unusable, "no stream of a region"):
                     region.begin()
                 region.finish()
@@ -160,11 +160,11 @@ class Sockets(unittest.TestCase):
     def test_the_end_of_what_is_written(self) -> None:
         read = bytearray()
 
-        def do(writer: socket.socket) -> None:
-            writer.sendall(b'{"after":0}\n' + b'{"taken":1}\n' * 1_000)
-            while part := writer.recv(65_536):
+        def do(publisher: socket.socket) -> None:
+            publisher.sendall(b'{"after":0}\n' + b'{"taken":1}\n' * 1_000)
+            while part := publisher.recv(65_536):
                 read.extend(part)
-            writer.sendall(b'{"at":2,"error":"not-json"}\n')
+            publisher.sendall(b'{"at":2,"error":"not-json"}\n')
 
         region = self.listens(do)
         region.begin()
@@ -174,7 +174,7 @@ class Sockets(unittest.TestCase):
         self.assertEqual(bytes(read), b"x" * 100_000)
 
 
-class Scripted:
+class FakeBroker:
     """A broker whose stream has these images, and does not answer at these positions at first, at the seventh without a reason."""
 
     def __init__(self, count: int, away: Sequence[int] = ()) -> None:
@@ -217,7 +217,7 @@ class Running(unittest.TestCase):
         with tempfile.TemporaryDirectory() as folder:
             region = Region(Path(folder, "east"), 3)
             self.addCleanup(region.stop)
-            source, said = Scripted(20, (5, 7, 9, 9)), io.StringIO()
+            source, said = FakeBroker(20, (5, 7, 9, 9)), io.StringIO()
             with redirect_stderr(said):
                 self.assertEqual(run("scripted", source, RegionSocket(str(region.path), lambda _: None)), 1)
             wait_until(lambda: region.has == 20)
@@ -232,5 +232,5 @@ class Running(unittest.TestCase):
             self.addCleanup(region.stop)
             said = io.StringIO()
             with redirect_stderr(said):
-                self.assertEqual(run("scripted", Scripted(9), RegionSocket(str(region.path), lambda _: None)), 1)
+                self.assertEqual(run("scripted", FakeBroker(9), RegionSocket(str(region.path), lambda _: None)), 1)
             self.assertIn('refuses position 7, number -7: {"at":7,"error":"bad-shape","member":"fields"}', said.getvalue())

@@ -1,8 +1,8 @@
 //! Lines as commands.
 
-use crate::images::Batch;
 use crate::members::{ensure, is_key, is_version, text_of, version_of, Members};
 use crate::queries::Query;
+use crate::records::Batch;
 use crate::refusals::Refusal;
 use crate::region::{look_up, Lookup, Region};
 use serde_json::{json, Value};

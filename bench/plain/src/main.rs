@@ -3,7 +3,6 @@
 //! It answers the commands `deliver`, `read`, `get`, `scan` and `marks` as docs/lines.md says, and serves sessions.
 
 mod commands;
-mod images;
 mod lines;
 mod members;
 mod queries;

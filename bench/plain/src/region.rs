@@ -1,8 +1,7 @@
 //! A region: records and the marks of streams, with the commands that change it and those that only look.
 
-use crate::images::Batch;
 use crate::queries::Query;
-use crate::records::{join_all, join_cell, Body, Cell, Content, Records, Version};
+use crate::records::{join_all, join_cell, Batch, Body, Cell, Content, Records, Version};
 use crate::refusals::Refusal;
 use serde_json::{json, Map, Value};
 use std::collections::BTreeMap;

@@ -1,10 +1,9 @@
 //! A server of sessions over TCP, one thread each, while streams are read.
 
 use crate::commands::lookup_of;
-use crate::images::{Batch, Image};
 use crate::lines::{answer_lines, next_line};
 use crate::members::Members;
-use crate::records::{join_all, Records};
+use crate::records::{join_all, Batch, Image, Records};
 use crate::refusals::Refusal;
 use crate::region::{look_up, reduce, Marks};
 use std::fs::File;

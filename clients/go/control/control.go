@@ -59,9 +59,9 @@ type Lines struct {
 // A Tablet holds records, some of which are deletions.
 type Tablet struct{ Records, Deleted int64 }
 
-// A Stream of a region. State is "waiting" for a writer, "open", "ended" or "failed"; Position is up to where it was taken; Messages
+// A Stream of a region. State is "waiting" for a publisher, "open", "ended" or "failed"; Position is up to where it was taken; Messages
 // and Bytes were read. Since is the seconds since the last message, nil before the first. Reason and Line are of the last fault,
-// nil where there was none. Stream is whose stream a writer said it is, and Newest the broker's newest position that one told, Heard seconds
+// nil where there was none. Stream is whose stream a publisher said it is, and Newest the broker's newest position that one told, Heard seconds
 // ago; nil where none did.
 type Stream struct {
 	Name, Path, State         string

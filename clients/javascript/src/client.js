@@ -4,7 +4,7 @@ import { randomUUID } from "node:crypto";
 import { rename, rm, writeFile } from "node:fs/promises";
 import { basename, dirname, join } from "node:path";
 import { setTimeout as sleep } from "node:timers/promises";
-import { addressOf } from "./addresses.js";
+import { addressOf } from "./connection.js";
 import { Attempts, Order } from "./failover.js";
 import { stringify } from "./json.js";
 import { Pool } from "./pool.js";

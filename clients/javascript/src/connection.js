@@ -1,8 +1,33 @@
-// A session of a region, with any number of lines in flight.
+// Where a region is: TCP, TLS over TCP, or a Unix socket; and a session of one there, with any number of lines in flight.
 
-import { connect } from "./addresses.js";
+import net from "node:net";
+import tls from "node:tls";
 import { ConnectionFailed, TimedOut } from "./errors.js";
 import { Pipeline } from "./pipeline.js";
+
+const DEFAULT_PORT = 7070;
+
+/** Where tcp://HOST:PORT, tls://HOST:PORT or unix:PATH is, as node:net takes it. */
+export function addressOf(text) {
+  const path = /^unix:(?:\/\/)?(.+)$/s.exec(text)?.[1];
+  if (path !== undefined) {
+    return { path };
+  }
+  const [, scheme, host, port] = /^(tcp|tls):\/\/(\[[\d:.a-f]+\]|[^/:?#@[\]]+)(?::(\d+))?$/i.exec(text) ?? [];
+  if (host === undefined || Number(port) > 65535) {
+    throw new TypeError(`no address of a region: ${text}`);
+  }
+  return { host: host.replace(/[[\]]/g, ""), port: Number(port ?? DEFAULT_PORT), isTls: scheme === "tls" };
+}
+
+/** Opens a socket there. For TLS the configuration is as node:tls takes it, by default the machine's own certificates. */
+export function connect(address, configuration) {
+  const { isTls, ...where } = { ...address, noDelay: true, autoSelectFamily: address.host !== undefined };
+  if (isTls) {
+    return tls.connect({ servername: net.isIP(where.host) ? "" : where.host, ...where, ...configuration });
+  }
+  return net.connect(where);
+}
 
 /** For more milliseconds than this no timer can be set. */
 const MAX_TIMER = 2 ** 31 - 1;
@@ -14,8 +39,8 @@ export class Connection {
   /** Why it ended, once it has. */
   fault;
 
-  constructor(address, tls) {
-    this.#socket = connect(address, tls);
+  constructor(address, configuration) {
+    this.#socket = connect(address, configuration);
     this.#socket.on("data", (data) => this.#receive(data));
     this.#socket.on("error", (fault) => this.end(new ConnectionFailed(`the connection broke: ${fault.message}`, { cause: fault })));
     this.#socket.on("close", () => this.end(new ConnectionFailed("the region closed the connection")));

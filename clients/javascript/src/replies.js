@@ -1,9 +1,26 @@
-// What replies mean. Another command is one more meaning here, undefined of what is no reply to it.
+// Records as a region holds them, of which index.d.ts says more, and what replies mean. Another command is one more meaning here,
+// undefined of what is no reply to it.
 
 import { inspect } from "node:util";
 import { BadLine, CopyBehind, NoEntry, OutOfMemory, ProtocolError, RecordBehind, Recovering, Refused } from "./errors.js";
 import { stringify } from "./json.js";
-import { Record } from "./records.js";
+
+export class Record {
+  constructor({ contents, key, state, version }) {
+    this.contents = contents;
+    this.key = key;
+    this.state = state;
+    this.version = version;
+  }
+
+  get fields() {
+    return this.state === "one" ? this.contents[0].fields : undefined;
+  }
+}
+
+export function compareVersions([generation, number], [otherGeneration, otherNumber]) {
+  return generation - otherGeneration || number - otherNumber;
+}
 
 const KINDS = new Map([
   ["too-long", BadLine],

@@ -1,7 +1,7 @@
 // The versions of records that a client has shown, so that no region shows it an older one: no socket.
 
 import { compareKeys, covers, shows } from "./queries.js";
-import { compareVersions } from "./records.js";
+import { compareVersions } from "./replies.js";
 
 /** The versions of the keys that were seen last, at most `size` of them. */
 export class Seen {

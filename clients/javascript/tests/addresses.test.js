@@ -8,7 +8,7 @@ import net from "node:net";
 import { join } from "node:path";
 import { test } from "node:test";
 import tls from "node:tls";
-import { addressOf } from "../src/addresses.js";
+import { addressOf } from "../src/connection.js";
 import { ConnectionFailed } from "../src/index.js";
 import { NONE, fake, folderOf, open } from "./support.js";
 

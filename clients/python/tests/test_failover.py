@@ -31,8 +31,7 @@ from pnuts_client.errors import refusal_of
 from pnuts_client.failover import Attempts, Order, Try, backoff
 from pnuts_client.seen import Seen
 
-from .support import fake, replies, vectors
-from .tables import Region
+from .support import Region, fake, replies, vectors
 from .test_vectors import as_json
 
 FAULTS: dict[str, type[PnutsError]] = {"connection": ConnectionFailed, "timeout": TimedOut, "protocol": ProtocolError}

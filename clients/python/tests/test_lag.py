@@ -15,8 +15,7 @@ from pathlib import Path
 
 from pnuts_client import AsyncClient, Client, Record, Version
 
-from .proxy import Proxy
-from .support import image, region
+from .support import Proxy, image, region
 
 KEYS = [f"k{at:02}" for at in range(40)]
 # By how many seconds each region lags, how many changes a second there are, and for how many seconds.

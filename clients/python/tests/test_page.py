@@ -11,10 +11,9 @@ from html.parser import HTMLParser
 from typing import Any
 
 from pnuts_client import ConnectionFailed, Control, Stats, Tablet, control_requests
-from pnuts_client.elements import element, joined
+from pnuts_client.elements import element, joined, sparkline
 from pnuts_client.history import History, Sample, Seen, View, counts_of
 from pnuts_client.page import SECONDS, policy, shown_page
-from pnuts_client.sparkline import sparkline
 
 NASTY = "<i>&\"'</i><script>alert(1)</script>"
 REPLY: dict[str, Any] = {

@@ -13,8 +13,7 @@ from pathlib import Path
 
 from pnuts_client import AsyncClient, AsyncRegions, Client, Control, PnutsError, Record, RecordBehind, Regions, requests
 
-from .proxy import Proxy
-from .support import image, region
+from .support import Proxy, image, region
 from .test_client import wait_for
 
 COUNT, BOUNDS = 200, ["k100"]

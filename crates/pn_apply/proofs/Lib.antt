@@ -1,11 +1,6 @@
 pub mod Applied
 pub mod Crossing
-pub mod Cuts
 pub mod Entries
-pub mod Halves
-pub mod Neighbours
-pub mod Parts
-pub mod Prefixes
 pub mod ReduceLaws
 pub mod Tables
 pub mod Turns

@@ -4,21 +4,18 @@ use Rattle.std.specs.List.{flat_map}
 use Rattle.std.proofs.lemmas.List.Elements.{filter-append}
 use Rattle.std.proofs.lemmas.List.Folds.{flat_map-map}
 use Rattle.pn_join.specs.Marks.{Positions, are_positions}
-use Rattle.pn_record.specs.declared.image.Image.{Image}
+use Rattle.pn_record.specs.declared.records.Image.{Image}
 use Rattle.pn_record.specs.Sets.{CellValue}
-use Rattle.pn_record.specs.Cells.{SameImages, cells, spell}
-use Rattle.pn_record.specs.CellMap.{Entries, table_of, adds}
+use Rattle.pn_record.specs.Cells.{SameImages, cells, spell, Entries, table_of, adds}
 use Rattle.pn_record.proofs.CellLists.{both, cells-append, cells-same}
 use Rattle.pn_record.proofs.CellMaps.{rising-table_of, adds-table_of, same_cells_table, cells-spelled}
-use Rattle.pn_tablet.specs.Ranges.{Ends, in_range}
-use Rattle.pn_tablet.specs.Layouts.{Bounds, IsLayout}
+use Rattle.pn_tablet.specs.Layouts.{Ends, in_range, Bounds, IsLayout}
 use Rattle.pn_tablet.specs.Tablets.{TabletStateValue, lie_in}
 use Rattle.pn_tablet.specs.declared.state.TabletOp.{TabletOp}
 use Rattle.pn_tablet.specs.declared.state.TabletOp.TheVariants.{Join}
 use Rattle.pn_apply.specs.Applying.{AreJoinsIn, HavePositions}
 use Rattle.pn_apply.specs.Reducing.{images_in, ranges, join_in, joins_of, joined_cells}
-use Rattle.pn_apply.proofs.Tables.{entries_that, table_that, all_that}
-use Rattle.pn_apply.proofs.Cuts.{all_pieces}
+use Rattle.pn_apply.proofs.Tables.{entries_that, table_that, all_that, all_pieces}
 
 pub cells_cut : (bounds : Bounds) (images : List Image) → IsLayout bounds → flat_map (λ (range : Ends). table_of (images_in range images)) (ranges bounds) ≡ table_of images
 cells_cut bounds images lawful =

@@ -1,5 +1,3 @@
 pub mod Applying
 pub mod Prelude
 pub mod Reducing
-pub mod Shares
-pub mod Working

@@ -1,18 +1,89 @@
-//! Operations applied, each to the slot of its own tablet.
+//! Operations applied, each to the slot of its own tablet, behind a gate that a worker enters.
 
-ghost use Rattle.std.specs.Prelude.{◌≡◌, ◌≤◌, ◌<◌, length, map, IfOk, OnOk, OnErr};
-ghost use Rattle.pn_tablet.specs.Prelude.{HasPositions, tablet_after, answer};
+ghost use Rattle.std.specs.Prelude.{◌≡◌, Ok, IfOk, IfErr, OnOk, OnErr, ◌≤◌, ◌<◌, length, map};
+ghost use Rattle.pn_tablet.specs.Prelude.{TabletStateValue, HasPositions, Refuses, step, answer, tablet_after};
+ghost use Rattle.pn_tablet.specs.Steps.{is_memory};
 ghost use Rattle.pn_apply.specs.Applying.{IsJoinIn, AreJoinsIn, HavePositions, all_stepped, all_changes, AreOldOrStepped, IsSomeOld, operation_at};
 ghost use Rattle.pn_apply.specs.declared.reducing.TheConstants.{MAX_WORKERS};
 
-use crate::gate::GatePass;
 use crate::working::{TabletWork, Task, work_all};
-use crate::{Gate, Slot};
 use pn_join::NoMemory;
-use pn_tablet::{Change, OpFault, TabletOp};
+use pn_tablet::{Change, OpFault, TabletOp, TabletState};
 use std::alloc::Global;
 use std::marker::{Send, Sync};
 use std::thread::Threads;
+
+/// Entered with each tablet's number, by the thread that works the tablet.
+pub trait Gate {
+    /// Returns once the worker may begin the tablet.
+    fn enter(&self, tablet: usize);
+
+    /// Whether no worker waits here for another. Only then do workers without enough images get no thread.
+    fn is_open(&self) -> bool {
+        false
+    }
+}
+
+/// The gate that holds nobody up.
+pub struct Open;
+
+impl Gate for Open {
+    /// Returns at once.
+    fn enter(&self, _tablet: usize) {}
+
+    /// Always true.
+    fn is_open(&self) -> bool {
+        true
+    }
+}
+
+/// Leave to work the tablet of this number, which only entering the gate gives.
+#[derive(Drop)]
+pub(crate) struct GatePass {
+    pub(crate) tablet: usize,
+    _sealed: (),
+}
+
+/// Enters the gate with a tablet's number.
+pub(crate) fn enter<G: Gate>(gate: &G, tablet: usize) -> GatePass
+    ensures { result.tablet ≡ tablet }
+{
+    gate.enter(tablet);
+    GatePass {
+        tablet,
+        _sealed: (),
+    }
+}
+
+/// Takes operations as a tablet's state does.
+pub trait Slot {
+    /// The state of the slot's tablet.
+    ghost tablet: { Self → TabletStateValue };
+
+    /// Takes one operation, whose positions are 1 to 10^15, as [`TabletState::apply`] does, but may also run out
+    /// of memory in a loss.
+    ///
+    /// An error leaves the slot's tablet as it was.
+    fn apply(&mut self, op: &TabletOp) -> Result<Vec<Change>, OpFault>
+        requires positions { HasPositions op.now }
+        ensures ok { OnOk result (step (tablet self.old) op.now ≡ Ok (tablet self.new)) }
+        ensures changes { IfOk result (λ list. list.items ≡ answer op.now (tablet self.old) (tablet self.new)) }
+        ensures refused { IfErr result (λ fault. Refuses is_memory fault (step (tablet self.old) op.now)) }
+        ensures err { OnErr result (tablet self.new ≡ tablet self.old) };
+
+    /// How many images it takes beside those of its next operation.
+    fn count_waiting(&self) -> usize {
+        0
+    }
+}
+
+impl Slot for TabletState {
+    ghost tablet = { λ state. state };
+
+    fn apply(&mut self, op: &TabletOp) -> Result<Vec<Change>, OpFault> {
+        TabletState::apply(self, op)
+    }
+}
 
 /// Applies each operation to the slot at its index, by 1 to 16 workers, and returns the changes of each, in the
 /// order of the tablets.

@@ -3,7 +3,7 @@
 ghost use Rattle.std.specs.Prelude.{◌≡◌, List, ◌++◌, map, IsTrue};
 ghost use Rattle.std.specs.List.{flat_map};
 ghost use Rattle.pn_join.specs.Prelude.{Positions, are_positions};
-ghost use Rattle.pn_record.specs.declared.image.Image.{Image};
+ghost use Rattle.pn_record.specs.declared.records.Image.{Image};
 ghost use Rattle.pn_record.specs.Prelude.{spell, table_of, SameImages, adds};
 ghost use Rattle.pn_stream.specs.Prelude.{DeliveryValue};
 ghost use Rattle.pn_tablet.specs.Prelude.{Bounds, IsLayout, Ends, TabletStateValue};

@@ -5,18 +5,11 @@
 #![tactic(auto)]
 
 mod apply;
-mod batch;
-mod cut;
-mod gate;
 pub mod laws;
 mod reducing;
 mod share;
-mod slot;
 mod working;
 
-pub use apply::apply_all;
-pub use batch::Batch;
-pub use gate::{Gate, Open};
+pub use apply::{Gate, Open, Slot, apply_all};
 pub use reducing::{MAX_WORKERS, reduce};
-pub use share::{Share, shares_of};
-pub use slot::Slot;
+pub use share::{Batch, Share, shares_of};

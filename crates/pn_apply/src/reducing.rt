@@ -4,17 +4,16 @@ ghost use Rattle.std.specs.Prelude.{◌≡◌, ◌++◌, ◌≤◌, List, length
 ghost use Rattle.std.specs.FinMap.{is_sorted};
 ghost use Rattle.pn_join.specs.Prelude.{are_positions};
 ghost use Rattle.pn_record.specs.Cells.{Holds};
-ghost use Rattle.pn_record.specs.declared.image.Image.{Image};
-ghost use Rattle.pn_record.specs.Order.{bytes_cmp};
+ghost use Rattle.pn_record.specs.declared.records.Image.{Image};
+ghost use Rattle.pn_record.specs.Sets.{bytes_cmp};
 ghost use Rattle.pn_record.specs.Prelude.{table_of};
-ghost use Rattle.pn_tablet.specs.Prelude.{tablet_ends};
 ghost use Rattle.pn_tablet.specs.declared.state.TabletOp.TheVariants.{Join};
 ghost use Rattle.pn_apply.specs.declared.reducing.TheConstants.{MAX_WORKERS};
 ghost use Rattle.pn_apply.specs.Reducing.{all_images, images_in, joins_of, ranges};
 
-use crate::gate::GatePass;
+use crate::apply::GatePass;
 use crate::working::{TabletWork, Task, work_all};
-use crate::{Gate, Share};
+use crate::{Batch, Gate, Share};
 use pn_join::{Dup, Marks, NoMemory};
 use pn_record::{Records, join_records};
 use pn_tablet::{Layout, Range, TabletOp, cells_within};
@@ -65,17 +64,9 @@ fn ranges_of(alloc: Global, layout: &Layout) -> Result<Vec<Range>, NoMemory>
 {
     let mut found = Vec::with_capacity(alloc, layout.count())?;
     for tablet in 0..layout.count() {
-        found.push_reserved(range_of(layout, tablet)?);
+        found.push_reserved(layout.range_of(tablet)?);
     }
     Ok(found)
-}
-
-fn range_of(layout: &Layout, tablet: usize) -> Result<Range, NoMemory>
-    requires { tablet ≤ length layout.now }
-    ensures { IfOk result (λ range. range ≡ tablet_ends layout.now tablet) }
-{
-    let (from, to) = layout.range(tablet);
-    Range::from_ends(from, to)
 }
 
 // A join of each tablet's cells, with the marks.

@@ -10,16 +10,13 @@ use Rattle.clap.specs.declared.error.kind.ErrorKind.{ErrorKind}
 use Rattle.clap.specs.declared.error.kind.ErrorKind.TheVariants as error
 use Rattle.clap.specs.declared.parser.matches.ArgMatches.{ArgMatches}
 use Rattle.clap.specs.Walk.{Row, Text, Walk, finished, nothing_held, settled, walk, walk_from}
-use Rattle.pn_json.proofs.Inverses.{bind_ok}
+use Rattle.pn_json.proofs.LookUps.{bind_ok}
 use Rattle.pn_arguments.specs.Options.{program}
-use Rattle.pn_arguments.specs.Plans.{Answers, HasSessions, IsTold, Plans, Says, Tells}
-use Rattle.pn_arguments.specs.Commands.{address_in, control_in, number_at, plan_in, replay_in, script_in, serve_in, service_in, settings_in, text_at}
-use Rattle.pn_arguments.specs.Faults.{FaultValue, told_fault}
-use Rattle.pn_arguments.specs.Faults as faults
-use Rattle.pn_arguments.specs.Permissions.{permissions_in}
-use Rattle.pn_arguments.specs.PlanValues.{PlanValue, ServiceValue, check, help, plan_value, replay, serve, version}
-use Rattle.pn_arguments.specs.Streams.{streams_in}
-use Rattle.pn_serve.specs.declared.server.limits.TheConstants.{MAX_SESSIONS}
+use Rattle.pn_arguments.specs.Plans.{Answers, HasSessions, IsTold, Plans, Says, Tells, FaultValue, told_fault}
+use Rattle.pn_arguments.specs.Commands.{address_in, control_in, number_at, plan_in, replay_in, script_in, serve_in, service_in, settings_in, text_at, PlanValue, ServiceValue, check, help, plan_value, replay, serve, version}
+use Rattle.pn_arguments.specs.Plans as faults
+use Rattle.pn_arguments.specs.OptionTexts.{permissions_in, streams_in}
+use Rattle.pn_serve.specs.declared.server.session_threads.TheConstants.{MAX_SESSIONS}
 use Rattle.pn_arguments.specs.declared.plans.Plan.{Plan}
 use Rattle.pn_arguments.specs.declared.plans.Plan.TheVariants as plan
 use Rattle.pn_arguments.specs.declared.faults.OptionFault.{OptionFault}
@@ -134,14 +131,16 @@ script_plans : (b : Bool) (options : List Row) (value : PlanValue) → cond b (O
 script_plans true options value e = let same : check ≡ value = cc in subst IsPlanned same tt
 script_plans false options value e = replay_plans options value e
 
-plans : (b : Bool) (written : Option IpAddr) (command : Text × List Row) (value : PlanValue) → cond b (serve_in written command.1) (script_in command) ≡ Ok value → IsPlanned value
+plans : (b : Bool) (written : Option IpAddr) (command : Text × List Row) (value : PlanValue)
+    → cond b (serve_in written command.1) (script_in command) ≡ Ok value → IsPlanned value
 plans true written command value e = serve_plans written command.1 value e
 plans false written command value e = script_plans _ command.1 value e
 
 -- ---- a command's plan is that of the words
 
 abbrev says : (words : List Text) → fault_of program words ≡ [] → (command : Text × List Row) → subcommand_of program words ≡ Some command
-    → (result : Result Plan PlanFault) (tells : Tells command result) (said : Result PlanValue OptionFault) → plan_in tells.written command ≡ said → Says words said
+    → (result : Result Plan PlanFault) (tells : Tells command result) (said : Result PlanValue OptionFault) → plan_in tells.written command ≡ said
+    → Says words said
 says words taken command found result tells said means =
     record { taken = taken; command = command; found = found; written = tells.written; reads = tells.reads; means = means }
 

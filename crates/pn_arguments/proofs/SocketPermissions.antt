@@ -6,8 +6,8 @@ use Rattle.std.specs.Char.{digit_value}
 use Rattle.std.specs.List.{list_all}
 use Rattle.std.specs.Str.Parse.{AllDigits, IsNumeral, digits_value, without_leading_plus}
 use Rattle.clap.proofs.WalkLemmas.{both}
-use Rattle.pn_arguments.specs.Permissions.{are_permissions, permissions_in}
-use Rattle.pn_arguments.specs.declared.permissions.TheConstants.{MAX_PERMISSIONS, OCTAL}
+use Rattle.pn_arguments.specs.OptionTexts.{are_permissions, permissions_in}
+use Rattle.pn_arguments.specs.declared.bounds.TheConstants.{MAX_PERMISSIONS, OCTAL}
 use Rattle.pn_arguments.specs.declared.faults.OptionFault.{OptionFault}
 use Rattle.pn_arguments.specs.declared.faults.OptionFault.TheVariants as fault
 
@@ -25,15 +25,18 @@ digits_back (d ∷ ds) h = rw (lt-ltb (digit_value d) OCTAL h.0) (digits_back ds
 abbrev pub not_too_great : ℕ → Result ℕ OptionFault
 not_too_great n = cond (nat_le n MAX_PERMISSIONS) (Ok n) (Err fault.SocketMode)
 
-of_numeral : (text : List ℕ) → IsNumeral OCTAL (without_leading_plus text) → permissions_in text ≡ not_too_great (digits_value OCTAL (without_leading_plus text))
+of_numeral : (text : List ℕ) → IsNumeral OCTAL (without_leading_plus text)
+    → permissions_in text ≡ not_too_great (digits_value OCTAL (without_leading_plus text))
 of_numeral text h = rw (lt-ltb _ _ h.0, digits_back _ h.1) refl
 
 pub of_number : (text : List ℕ) (n : ℕ)
-    → (IsNumeral OCTAL (without_leading_plus text) × (digits_value OCTAL (without_leading_plus text) < 2 ^ 32)) × (n ≡ digits_value OCTAL (without_leading_plus text))
+    → (IsNumeral OCTAL (without_leading_plus text) × (digits_value OCTAL (without_leading_plus text) < 2 ^ 32))
+    × (n ≡ digits_value OCTAL (without_leading_plus text))
     → not_too_great n ≡ permissions_in text
 of_number text n parsed = ap not_too_great parsed.1 ∙ sym (of_numeral text parsed.0.0)
 
-pub of_none : (text : List ℕ) → ¬ (IsNumeral OCTAL (without_leading_plus text) × (digits_value OCTAL (without_leading_plus text) < 2 ^ 32)) → Err fault.SocketMode ≡ permissions_in text
+pub of_none : (text : List ℕ) → ¬ (IsNumeral OCTAL (without_leading_plus text) × (digits_value OCTAL (without_leading_plus text) < 2 ^ 32))
+    → Err fault.SocketMode ≡ permissions_in text
 of_none text none = unless (are_permissions (without_leading_plus text)) refl
   where
     unless : (b : Bool) → are_permissions (without_leading_plus text) ≡ b

@@ -1,25 +1,90 @@
--- What commands say with their options.
-use Rattle.std.specs.Prelude.{ℕ, Bool, ◌==◌, ◌&&◌, not, nat_lt, if◌then◌else◌, List, [], length, codes, Option, Some, None, unwrap_or, option_and_then, min, max, Result, Ok, Err}
+-- Plans of the program, and what commands say with their options.
+use Rattle.std.specs.Prelude.{ℕ, Bool, List, String, map, string_bytes, Option, option_map, ◌==◌, ◌&&◌, not, nat_lt, if◌then◌else◌, [], length, codes, Some, None, unwrap_or, option_and_then, min, max, Result, Ok, Err}
+use Rattle.std.specs.declared.alloc.Global.{Global}
+use Rattle.std.specs.declared.net.ip_addr.IpAddr.{IpAddr}
 use Rattle.std.specs.Net.Grammar.{IsIpText}
 use Rattle.std.specs.Option.{ok_or}
 use Rattle.std.specs.Str.{bytes_eq}
 use Rattle.std.specs.Str.Parse.{digits_value, without_leading_plus}
-use Rattle.std.specs.declared.net.ip_addr.IpAddr.{IpAddr}
 use Rattle.clap.specs.ValueTests.{is_unsigned_in}
 use Rattle.clap.specs.Words.{Row, Text, all_of, first_of, one_of}
 use Rattle.pn_json.specs.Answers.{◌>>=◌}
 use Rattle.pn_apply.specs.declared.reducing.TheConstants.{MAX_WORKERS}
+use Rattle.pn_serve.specs.Runs.{SettingsValue}
+use Rattle.pn_serve.specs.declared.server.session_threads.TheConstants.{MAX_SESSIONS}
+use Rattle.pn_arguments.specs.OptionTexts.{StreamValue, stream_value, streams_in, bounds_in, permissions_in}
+use Rattle.pn_arguments.specs.declared.plans.Address.{Address}
+use Rattle.pn_arguments.specs.declared.plans.Plan.{Plan}
+use Rattle.pn_arguments.specs.declared.plans.Service.{Service}
 use Rattle.pn_arguments.specs.declared.options.TheConstants.{MAX_CONNECTIONS, MAX_IDLE, MAX_PORT, MAX_UNREAD}
-use Rattle.pn_serve.specs.declared.server.limits.TheConstants.{MAX_SESSIONS}
-use Rattle.pn_serve.specs.Settings.{SettingsValue}
-use Rattle.pn_arguments.specs.Bounds.{bounds_in}
-use Rattle.pn_arguments.specs.Permissions.{permissions_in}
-use Rattle.pn_arguments.specs.Streams.{streams_in}
 use Rattle.pn_arguments.specs.declared.faults.OptionFault.{OptionFault}
+use Rattle.pn_arguments.specs.declared.streams.TheConstants.{MAX_SOCKET_BYTES}
+use Rattle.pn_arguments.specs.declared.plans.Address.TheVariants as address
+use Rattle.pn_arguments.specs.declared.plans.Plan.TheVariants as plan
 use Rattle.pn_arguments.specs.declared.faults.OptionFault.TheVariants as fault
 use Rattle.pn_arguments.specs.declared.faults.Why.TheVariants as why
-use Rattle.pn_arguments.specs.declared.streams.TheConstants.{MAX_SOCKET_BYTES}
-use Rattle.pn_arguments.specs.PlanValues.{AddressValue, PlanValue, ServiceValue, check, path, port, replay, serve}
+
+-- Plans of the program.
+
+-- a host and a port, or the path of a Unix socket
+pub data AddressValue : Type 0 where
+  port : IpAddr → ℕ → AddressValue
+  path : List ℕ → AddressValue
+
+-- the sessions, where the server listens, the permissions of its sockets, the connections of a server that stays, the socket of its
+-- control sessions, the seconds of a client that is idle, the bytes of unread replies, whether progress is written, and the path of the
+-- copies that the region starts from
+pub record ServiceValue : Type 0 where
+  pub sessions : ℕ
+  pub address : AddressValue
+  pub socket_mode : ℕ
+  pub stay : Option ℕ
+  pub control : Option (List ℕ)
+  pub idle : Option ℕ
+  pub unread : ℕ
+  pub is_progress_told : Bool
+  pub copies : Option (List ℕ)
+
+-- lines to check; a script; or the settings, the service and the streams to serve; or help, or the version
+pub data PlanValue : Type 0 where
+  check : PlanValue
+  replay : SettingsValue → PlanValue
+  serve : SettingsValue → ServiceValue → List StreamValue → PlanValue
+  help : PlanValue
+  version : PlanValue
+
+-- where the server of a plan listens
+abbrev pub address_value : Address → AddressValue
+address_value (address.Port host number) = port host number
+address_value (address.Path text) = path (string_bytes text)
+
+-- the bytes of a text, if there is one
+abbrev pub optional_bytes : Option (String Global) → Option (List ℕ)
+optional_bytes text = option_map string_bytes text
+
+-- how a plan serves
+abbrev pub service_value : Service → ServiceValue
+service_value service = record {
+  sessions = service.sessions;
+  address = address_value service.address;
+  socket_mode = service.socket_mode;
+  stay = service.stay;
+  control = optional_bytes service.control;
+  idle = service.idle;
+  unread = service.unread;
+  is_progress_told = service.is_progress_told;
+  copies = optional_bytes service.copies;
+}
+
+-- what a plan of the program says
+abbrev pub plan_value : Plan → PlanValue
+plan_value plan.Check = check
+plan_value (plan.Replay settings) = replay settings
+plan_value (plan.Serve settings service streams) = serve settings (service_value service) (map stream_value streams.items)
+plan_value (plan.Help text) = help
+plan_value (plan.Version text) = version
+
+-- What commands say with their options.
 
 -- the number that decimal digits write, in 32 bits
 abbrev pub number_in : Text → Option ℕ

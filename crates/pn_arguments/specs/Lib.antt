@@ -1,8 +1,4 @@
-pub mod Bounds
 pub mod Commands
-pub mod Faults
+pub mod OptionTexts
 pub mod Options
-pub mod Permissions
-pub mod PlanValues
 pub mod Plans
-pub mod Streams

@@ -6,7 +6,7 @@ use Rattle.clap.specs.declared.builder.value_parser.ValueParser.{ValueParser}
 use Rattle.clap.specs.declared.builder.value_parser.ValueParser.TheVariants as values
 use Rattle.pn_apply.specs.declared.reducing.TheConstants.{MAX_WORKERS}
 use Rattle.pn_arguments.specs.declared.options.TheConstants.{MAX_CONNECTIONS, MAX_IDLE, MAX_PORT, MAX_UNREAD}
-use Rattle.pn_serve.specs.declared.server.limits.TheConstants.{MAX_SESSIONS}
+use Rattle.pn_serve.specs.declared.server.session_threads.TheConstants.{MAX_SESSIONS}
 
 -- an option with one value, and its default
 abbrev pub option_of : Text → Text → Rule
@@ -91,7 +91,9 @@ replay = with_rule (with_rule (new_app (codes "replay")) bounds_option) workers_
 -- where and how long sessions are served
 abbrev pub with_service : App → App
 with_service app =
-    with_rule (with_rule (with_rule (with_rule (with_rule (with_rule (with_rule (with_rule (with_rule (with_rule (with_rule app sessions_option) listen_option) port_option) socket_option) socket_mode_option) stay_flag) control_option) connections_option) idle_option) unread_option) progress_flag
+    with_rule (with_rule (with_rule (with_rule (with_rule
+    (with_rule (with_rule (with_rule (with_rule (with_rule (with_rule app sessions_option) listen_option) port_option) socket_option)
+    socket_mode_option) stay_flag) control_option) connections_option) idle_option) unread_option) progress_flag
 
 -- and from which copies the region starts
 abbrev pub with_start : App → App

@@ -1,10 +1,11 @@
-//! The argument `--bounds`.
+//! Bounds and permissions that texts say.
 
 ghost use Rattle.std.specs.Option.{ok_or};
+ghost use Rattle.std.specs.Prelude.{◌≡◌, nat_le, if◌then◌else◌, Ok, Err};
 ghost use Rattle.serde_json.specs.View.{view, items_view};
 ghost use Rattle.pn_json.specs.Prelude.{IsUnless, ShowsUnless, each_in};
 ghost use Rattle.pn_record.specs.Prelude.{reading};
-ghost use Rattle.pn_arguments.specs.Bounds.{bounds_in, key_in};
+ghost use Rattle.pn_arguments.specs.OptionTexts.{bounds_in, key_in, permissions_in};
 ghost use Rattle.pn_arguments.specs.declared.faults.Why.TheVariants.{NoJson};
 
 use crate::faults::{OptionFault, Why};
@@ -15,7 +16,7 @@ use serde_json::Value;
 use std::alloc::Global;
 
 /// The layout whose bounds are a JSON array of keys.
-#[tactic(auto, unfolding(crate::specs::Bounds::bounds_in))]
+#[tactic(auto, unfolding(crate::specs::OptionTexts::bounds_in))]
 pub(crate) fn layout_of(alloc: Global, text: &str) -> Result<Layout, OptionFault>
     ensures { IsUnless OptionFault.Memory result (bounds_in text.now) }
 {
@@ -64,5 +65,32 @@ fn key_of(alloc: Global, item: &Value) -> Result<Key, OptionFault>
         Ok(key) => Ok(key),
         Err(KeyFault::OutOfRange) => Err(OptionFault::Bounds(Why::NoKey)),
         Err(KeyFault::Memory) => Err(OptionFault::Memory),
+    }
+}
+
+/// The greatest permissions of a socket.
+const MAX_PERMISSIONS: u32 = 0o777;
+
+/// The base in which permissions are written.
+const OCTAL: u32 = 8;
+
+/// The permissions that a text writes.
+pub(crate) fn permissions_of(text: &str) -> Result<u32, OptionFault>
+    ensures { result ≡ permissions_in text.now }
+{
+    match u32::from_str_radix(text, OCTAL) {
+        Ok(permissions) => within_most(permissions),
+        Err(_) => Err(OptionFault::SocketMode),
+    }
+}
+
+// Permissions that are not too great.
+fn within_most(permissions: u32) -> Result<u32, OptionFault>
+    ensures { result ≡ (if nat_le permissions MAX_PERMISSIONS then Ok permissions else Err OptionFault.SocketMode) }
+{
+    if permissions <= MAX_PERMISSIONS {
+        Ok(permissions)
+    } else {
+        Err(OptionFault::SocketMode)
     }
 }

@@ -5,10 +5,8 @@ mod bounds;
 mod faults;
 mod help;
 mod options;
-mod permissions;
 mod planning;
 mod plans;
-mod refusing;
 mod streams;
 
 pub use faults::{PlanFault, Refused, Why};

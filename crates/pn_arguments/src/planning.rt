@@ -5,17 +5,14 @@ ghost use Rattle.std.specs.declared.net.ip_addr.IpAddr.{IpAddr};
 ghost use Rattle.clap.specs.Words.{found_of, kind_of, rows_of, subcommand_rows_of};
 ghost use Rattle.pn_json.specs.Prelude.{IsUnless, ShowsUnless};
 ghost use Rattle.pn_arguments.specs.Plans.{Answers, Gives, HasSessions, Plans, Tells};
-ghost use Rattle.pn_arguments.specs.Commands.{control_in, copies_in, idle_in, listens_at, address_in};
-ghost use Rattle.pn_arguments.specs.Commands.{replay_in, script_in, serve_in, service_in, settings_in, stay_in, Spells};
-ghost use Rattle.pn_arguments.specs.PlanValues.{address_value, optional_bytes, plan_value, service_value};
+ghost use Rattle.pn_arguments.specs.Commands.{control_in, copies_in, idle_in, listens_at, address_in, replay_in, script_in, serve_in, service_in, settings_in};
+ghost use Rattle.pn_arguments.specs.Commands.{stay_in, Spells, address_value, optional_bytes, plan_value, service_value};
 
-use crate::bounds::layout_of;
-use crate::faults::{OptionFault, Why};
+use crate::bounds::{layout_of, permissions_of};
+use crate::faults::{OptionFault, Why, told_fault};
 use crate::options::{
     MAX_CONNECTIONS, MAX_IDLE, MAX_PORT, MAX_UNREAD, command, is_given, option_number, option_text,
 };
-use crate::permissions::permissions_of;
-use crate::refusing::told_fault;
 use crate::streams::{MAX_SOCKET_BYTES, named_streams};
 use crate::{Address, Plan, PlanFault, Service};
 use clap::error::ErrorKind;
@@ -126,16 +123,20 @@ fn host_of(options: &ArgMatches<'_>) -> Option<IpAddr>
 fn service_of(alloc: Global, host: IpAddr, options: &ArgMatches<'_>) -> Result<Service, OptionFault>
     ensures { ShowsUnless OptionFault.Memory service_value result (service_in host (rows_of (found_of options.now))) }
 {
+    let address = address_of(alloc, host, options)?;
+    let socket_mode = permissions_of(option_text(options, "socket-mode"))?;
+    let control = control_path(alloc, options)?;
+    let copies = copies_path(alloc, options)?;
     Ok(Service {
         sessions: option_number(options, "sessions", MAX_SESSIONS as u32) as usize,
-        address: address_of(alloc, host, options)?,
-        socket_mode: permissions_of(option_text(options, "socket-mode"))?,
+        address,
+        socket_mode,
         stay: stay_of(options),
-        control: control_path(alloc, options)?,
+        control,
         idle: idle_of(options),
         unread: option_number(options, "unread", MAX_UNREAD),
         is_progress_told: is_given(options, "progress"),
-        copies: copies_path(alloc, options)?,
+        copies,
     })
 }
 

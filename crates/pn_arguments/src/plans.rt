@@ -30,7 +30,7 @@ pub struct Service {
     /// How many sessions are served: 1 to 16.
     pub sessions: usize,
     pub address: Address,
-    /// The permissions of the Unix sockets at which clients and writers of streams come: up to 0o777.
+    /// The permissions of the Unix sockets at which clients and publishers of streams come: up to 0o777.
     pub socket_mode: u32,
     /// With `--stay`, how many connections are served at once: 1 to 65,536.
     pub stay: Option<u32>,

@@ -4,17 +4,15 @@ ghost use Rattle.std.specs.Prelude.{◌≡◌, [], codes, map, unwrap_or};
 ghost use Rattle.clap.specs.Words.{all_of, found_of, rows_of};
 ghost use Rattle.std.specs.Str.{bytes_eq};
 ghost use Rattle.pn_json.specs.Prelude.{ShowsUnless, texts};
-ghost use Rattle.pn_arguments.specs.Streams.{each_stream, file_in, has_name as name_among, path_in, path_value};
-ghost use Rattle.pn_arguments.specs.Streams.{repeated_from, socket_in, stream_in, stream_value, streams_in};
+ghost use Rattle.pn_arguments.specs.OptionTexts.{each_stream, file_in, has_name as name_among, path_in, path_value, repeated_from, socket_in, stream_in};
+ghost use Rattle.pn_arguments.specs.OptionTexts.{stream_value, streams_in};
 
 use crate::faults::{OptionFault, Why};
 use clap::ArgMatches;
 use pn_join::Name;
+use pn_region::MAX_STREAMS;
 use pn_serve::StreamPath;
 use std::alloc::Global;
-
-/// The most streams that are read.
-const MAX_STREAMS: usize = 16;
 
 /// The most bytes of the path of a Unix socket.
 pub(crate) const MAX_SOCKET_BYTES: usize = 107;
@@ -34,7 +32,7 @@ pub(crate) fn named_streams(
     }
 }
 
-#[tactic(auto, unfolding(crate::specs::Streams::streams_in))]
+#[tactic(auto, unfolding(crate::specs::OptionTexts::streams_in))]
 fn streams_of(
     alloc: Global,
     stays: bool,

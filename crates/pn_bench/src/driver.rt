@@ -1,8 +1,6 @@
 //! Loads a region, reads it and brings rounds to it, by the clock.
 
-use crate::readers::{READERS, Runner, found_all, read_all, runners_of};
-use crate::store::Store;
-use crate::workload::{Mode, Workload};
+use crate::workload::{Mode, READERS, Runner, Store, Workload, found_all, read_all, runners_of};
 use pn_join::Dup;
 use pn_line::Source;
 use pn_live::{LiveReader, LiveRegion};

@@ -11,8 +11,6 @@
 
 mod driver;
 mod layouts;
-mod readers;
-mod store;
 mod workload;
 
 use crate::driver::time;

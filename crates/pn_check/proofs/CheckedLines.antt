@@ -1,27 +1,87 @@
--- Lines that were checked to the end of their input.
-use Rattle.std.proofs.Common.{◌≡◌, ℕ, ◌+◌, ◌-◌, ◌^◌, ◌⊎◌, inl, inr, Bool, true, false, Option, None, Some, List, [], ◌∷◌, ◌++◌, length, refl, sym, ap, ap₂, ◌∙◌, subst, arith, append-nil, eqb-true}
-use Rattle.std.specs.Prelude.{◌==◌, ◌↔◌, IsTrue, IfOk, IfSome, IsErrOf, OnOk, Result, Ok, Err, min}
+-- A line that is checked, and lines that were checked to the end of their input.
+use Rattle.std.proofs.Common.{◌≡◌, ◌≢◌, ◌⊎◌, inl, inr, ℕ, Bool, true, false, if◌then◌else◌, Option, None, Some, List, [], ◌∷◌, length, Result, Ok, refl, sym, ap, ◌∙◌, subst, arith, ◌+◌, ◌-◌, ◌^◌, ◌++◌, ap₂, append-nil, eqb-true}
+use Rattle.std.specs.Prelude.{MatchBool, ◌==◌, ◌↔◌, IsTrue, IfOk, IfSome, IsErrOf, OnOk, Err, min}
+use Rattle.std.proofs.lemmas.List.{length-take, nil_from_length}
 use Rattle.std.specs.Io.KnownBytes.{Appends}
-use Rattle.pn_line.specs.LinesRead.{PartRead}
-use Rattle.pn_line.specs.Reads.{IsUnbroken}
-use Rattle.pn_line.specs.Text.{last_line, lines_of, text_of}
+use Rattle.serde_json.specs.Data.{Data}
+use Rattle.pn_line.specs.Line.{kept_bytes, max_kept, IsUnbroken}
+use Rattle.pn_line.specs.Text.{last_line, lines_of, text_of, PartRead}
+use Rattle.pn_line.specs.declared.line_buffer.TheConstants.{MAX_KEPT_BYTES}
+use Rattle.pn_line.proofs.LineLaws.{kept_bytes-nil}
 use Rattle.pn_line.proofs.TextLaws.{lines_of-last, lines_of-nil, lines_of-text}
-use Rattle.pn_lines.specs.Ends.{CanEnd, EndsBy, Ended, HandsOn, HasEnded, IsEndless, IsFull, Start, Stopped}
-use Rattle.pn_lines.specs.Handling.{Answers}
-use Rattle.pn_lines.specs.Replies.{Replied, one_if, refusals_of, texts_of}
-use Rattle.pn_lines.specs.Standing.{AllAnswer}
-use Rattle.pn_lines.specs.declared.driver.LinesFault.{LinesFault}
-use Rattle.pn_lines.specs.declared.driver.LinesFault.TheVariants as ended
-use Rattle.pn_lines.specs.declared.engine.Counts.{Counts}
+use Rattle.pn_json.specs.Answers.{◌>>=◌}
+use Rattle.pn_record.specs.Grammar.{image_in}
+use Rattle.pn_record.specs.Reading.{value_at}
+use Rattle.pn_record.specs.declared.fault.ImageFault.{ImageFault}
+use Rattle.pn_stream.specs.Messages.{message_at, message_in}
+use Rattle.pn_lines.specs.Handling.{one_if, Replied, refusals_of, texts_of, Answers}
 use Rattle.pn_lines.specs.declared.handler.EndedBy.{EndedBy}
 use Rattle.pn_lines.specs.declared.handler.EndedBy.TheVariants.{Newline, Input}
-use Rattle.pn_check.specs.Checked.{Tells, checks, lines_by}
-use Rattle.pn_check.specs.Checking.{all_told, counted, refused}
-use Rattle.pn_check.specs.Ends.{HasChecked, HasNoEnd, conclusion}
+use Rattle.pn_lines.specs.Driving.{CanEnd, EndsBy, Ended, Flushes, HasEnded, IsEndless, IsFull, Start, Stopped}
+use Rattle.pn_lines.specs.Standing.{AllAnswer}
+use Rattle.pn_lines.specs.declared.driver.LinesFault.{LinesFault}
+use Rattle.pn_lines.specs.declared.engine.Counts.{Counts}
+use Rattle.pn_lines.specs.declared.driver.LinesFault.TheVariants as ended
+use Rattle.pn_check.specs.Checking.{Checks, Tells, TellsNext, lines_by, replied_of, checks, next, all_told, counted, refused, HasChecked, HasNoEnd, conclusion}
+use Rattle.pn_check.specs.Told.{fault_at, fault_in, is_message, read_fault, told}
+use Rattle.pn_check.specs.declared.checker.Checker.{Checker}
+use Rattle.pn_check.proofs.ToldLines.{told-kept, reply_refuses, reply_text, counted-append, many-append, told-append}
 use Rattle.pn_check.specs.declared.input.CheckFault.{CheckFault}
 use Rattle.pn_check.specs.declared.input.CheckFault.TheVariants as fault
-use Rattle.pn_check.specs.declared.checker.Checker.{Checker}
-use Rattle.pn_check.proofs.ToldLines.{counted-append, many-append, told-append}
+
+-- A line that is checked.
+
+-- ---- a message's fault is that of its line
+
+pub message_fault : (line : List ℕ) (d : Data) → value_at line ≡ Ok d → is_message d ≡ true → fault_in (message_at line) ≡ fault_at line
+unfolding message_at
+message_fault line d is says =
+    ap (λ (r : Result Data ImageFault). fault_in (r >>= message_in)) is
+    ∙ sym (ap read_fault is ∙ ap (λ (b : Bool). if b then fault_in (message_in d) else fault_in (image_in d)) says)
+
+-- ---- a last part without a byte
+
+-- of no byte none was kept
+kept_none : (text : List ℕ) → kept_bytes text ≡ [] → text ≡ []
+unfolding max_kept
+kept_none text none = nil_from_length text (omega (arith, ap length none, length-take MAX_KEPT_BYTES text))
+
+pub no_line : (was : Checker) (line : List ℕ) (ended : EndedBy) (lacks : Bool) (text : List ℕ) → was.is_spent ≡ false
+    → MatchBool lacks ((ended ≡ Input) × (line ≡ [])) (ended ≡ Input → line ≢ []) → lacks ≡ true → line ≡ kept_bytes text → Checks was ended text was (replied_of None)
+no_line was line ended true text goes says holds is =
+    let empty : text ≡ [] = kept_none text (sym is ∙ says.1) in
+    let none : lines_by ended text ≡ [] = ap (λ (e : EndedBy). lines_by e text) says.0 ∙ ap last_line empty in
+    let nothing : Tells was was [] (replied_of None) = record { goes = goes; counts = refl; goes_on = goes; text = refl; refuses = refl } in
+    inr (subst (λ (lines : List (List ℕ)). Tells was was lines (replied_of None)) (sym none) nothing)
+no_line was line ended false text goes says holds is = absurd (cc)
+
+-- ---- a line
+
+one_line : (ended : EndedBy) (line text : List ℕ) → (ended ≡ Input → line ≢ []) → line ≡ kept_bytes text → lines_by ended text ≡ text ∷ []
+one_line Newline line text some is = refl
+one_line Input line [] some is = absurd (some refl (is ∙ kept_bytes-nil))
+one_line Input line (b ∷ text) some is = refl
+
+pub next_line : (was now : Checker) (line : List ℕ) (ended : EndedBy) (lacks : Bool) (said : Option (List ℕ)) (text : List ℕ) → was.is_spent ≡ false
+    → MatchBool lacks ((ended ≡ Input) × (line ≡ [])) (ended ≡ Input → line ≢ []) → lacks ≡ false → line ≡ kept_bytes text → TellsNext was line now said
+    → Checks was ended text now (replied_of said)
+next_line was now line ended true said text goes says holds is tells = absurd (cc)
+next_line was now line ended false said text goes says holds is tells = elim tells [
+  | inl spent ↦ inl (spent.0, ap (λ (s : Option (List ℕ)). (replied_of s).text) spent.1)
+  | inr told_next ↦ inr (subst (λ (lines : List (List ℕ)). Tells was now lines (replied_of said)) (sym (one_line ended line text says is)) (tells_one told_next))
+]
+  where
+    tells_one : (now.is_spent ≡ was.is_spent) × (now.lines ≡ next was.lines) × (said ≡ told (next was.lines) line) → Tells was now (text ∷ []) (replied_of said)
+    tells_one told_next =
+        let same : said ≡ told (next was.lines) text = told_next.2 ∙ told-kept (next was.lines) line text is in record {
+          goes = goes;
+          counts = told_next.1;
+          goes_on = told_next.0 ∙ goes;
+          text = ap (λ (s : Option (List ℕ)). (replied_of s).text) same ∙ reply_text was.lines text;
+          refuses = ap (λ (s : Option (List ℕ)). one_if (replied_of s).refused) same ∙ reply_refuses was.lines text;
+        }
+
+-- Lines that were checked to the end of their input.
 
 -- ---- lines with their newlines
 
@@ -157,11 +217,11 @@ module _ (read write end closed : Type 0) where
   write_fails (Err ended.EndlessLine) spent can is = absurd (cc)
   write_fails (Err ended.Closed) spent can is = absurd (cc)
 
-pub told_out : (handed_on : Type 0) (ends : Result Counts LinesFault) (spent : Bool) → HandsOn ends handed_on → OnOk (conclusion ends spent) handed_on
-told_out handed_on (Ok counts) true out = tt
-told_out handed_on (Ok counts) false out = out
-told_out handed_on (Err ended.Read) spent out = tt
-told_out handed_on (Err ended.Write) spent out = tt
-told_out handed_on (Err ended.TooManyLines) spent out = tt
-told_out handed_on (Err ended.EndlessLine) spent out = tt
-told_out handed_on (Err ended.Closed) spent out = tt
+pub told_out : (flushed : Type 0) (ends : Result Counts LinesFault) (spent : Bool) → Flushes ends flushed → OnOk (conclusion ends spent) flushed
+told_out flushed (Ok counts) true out = tt
+told_out flushed (Ok counts) false out = out
+told_out flushed (Err ended.Read) spent out = tt
+told_out flushed (Err ended.Write) spent out = tt
+told_out flushed (Err ended.TooManyLines) spent out = tt
+told_out flushed (Err ended.EndlessLine) spent out = tt
+told_out flushed (Err ended.Closed) spent out = tt

@@ -1,5 +1,2 @@
 pub mod CheckedLines
-pub mod CheckedOnce
-pub mod KeptLines
-pub mod Pieces
 pub mod ToldLines

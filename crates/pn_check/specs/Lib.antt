@@ -1,7 +1,3 @@
-pub mod Checked
 pub mod Checking
-pub mod Ends
-pub mod Faults
-pub mod Names
 pub mod Proofs
 pub mod Told

@@ -3,11 +3,13 @@
 ghost use Rattle.std.specs.Prelude.{◌≡◌, ◌≢◌, ℕ, List, [], option_map, drop, MatchBool, false};
 ghost use Rattle.pn_line.specs.Prelude.{kept_bytes};
 ghost use Rattle.pn_lines.specs.Answers.{answer_of, done};
-ghost use Rattle.pn_check.specs.Checked.{Checks, TellsNext, replied_of};
+ghost use Rattle.pn_check.specs.Checking.{Checks, TellsNext, replied_of};
 
 use crate::told::tell_line;
 use pn_json::append_bytes;
-use pn_lines::{Answer, Answered, EndedBy, LineHandler, LineReply, MAX_PIECE_BYTES, PieceText};
+use pn_lines::{
+    Answered, EndedBy, LineHandler, LineOutcome, LineReply, MAX_PIECE_BYTES, PieceText,
+};
 use std::alloc::Global;
 
 /// How many lines came, and whether memory has run out.
@@ -102,10 +104,10 @@ impl Checker {
 
 impl LineHandler for Checker {
     ghost use Rattle.std.specs.Prelude.{⊤};
-    ghost use Rattle.pn_check.specs.Checked.{checks};
-    ghost use Rattle.pn_check.specs.Proofs.Steady.{checks_steadily};
+    ghost use Rattle.pn_check.specs.Checking.{checks};
+    ghost use Rattle.pn_check.specs.Proofs.{checks_steadily};
 
-    type Going = ();
+    type Pending = ();
 
     type Text = ToldText;
 
@@ -126,7 +128,7 @@ impl LineHandler for Checker {
     }
 
     // No line is gone on with.
-    fn go_on(&mut self, alloc: Global, _going: (), _units: u32) -> Answered<(), ToldText> {
+    fn go_on(&mut self, alloc: Global, _pending: (), _units: u32) -> Answered<(), ToldText> {
         answered(alloc, None)
     }
 
@@ -139,7 +141,7 @@ fn answered(alloc: Global, told: Option<Vec<u8>>) -> Answered<(), ToldText>
     ensures units { result.units ≡ 1 }
 {
     Answered {
-        answer: Answer::Done(reply_of(alloc, told)),
+        answer: LineOutcome::Done(reply_of(alloc, told)),
         units: 1,
     }
 }

@@ -1,7 +1,7 @@
 //! Checks the lines of an input.
 
 ghost use Rattle.std.specs.Prelude.{◌≡◌, ◌↔◌, [], IfOk, IfSome, IsErrOf, IsTrue, OnErr, OnOk};
-ghost use Rattle.pn_check.specs.Ends.{HasChecked, HasNoEnd, conclusion};
+ghost use Rattle.pn_check.specs.Checking.{HasChecked, HasNoEnd, conclusion};
 
 use crate::checker::Checker;
 use pn_line::{Sink, Source};
@@ -38,7 +38,7 @@ pub fn check<S: Source, W: Sink>(
     ensures read { IsErrOf result CheckFault.Read → S.may_fail }
     ensures write { IsErrOf result CheckFault.Write → W.may_fail }
     ensures endless { IsErrOf result CheckFault.Endless → IfSome (S.left input.old) HasNoEnd }
-    ensures out { OnOk result (W.is_handed_on output.new) }
+    ensures out { OnOk result (W.is_flushed output.new) }
 {
     match LineBuffers::new(alloc) {
         Ok(mut buffers) => check_lines(&mut buffers, input, output),
@@ -55,7 +55,7 @@ fn check_lines<S: Source, W: Sink>(
     ensures read { IsErrOf result CheckFault.Read → S.may_fail }
     ensures write { IsErrOf result CheckFault.Write → W.may_fail }
     ensures endless { IsErrOf result CheckFault.Endless → IfSome (S.left input.old) HasNoEnd }
-    ensures out { OnOk result (W.is_handed_on output.new) }
+    ensures out { OnOk result (W.is_flushed output.new) }
 {
     let mut checker = Checker::new();
     let ended = answer_lines(&mut checker, buffers, MAX_LINES, input, output);

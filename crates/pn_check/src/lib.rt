@@ -4,9 +4,7 @@
 #![tactic(auto)]
 
 mod checker;
-mod faults;
 mod input;
-mod names;
 mod told;
 
 pub use input::{CheckFault, check};

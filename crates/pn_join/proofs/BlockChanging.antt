@@ -4,17 +4,15 @@ use Rattle.std.specs.List.{AllByRecursion}
 use Rattle.std.specs.Option.{option_to_list}
 use Rattle.std.specs.FinMap.{find}
 use Rattle.std.proofs.lemmas.List.{length-append, take_more}
-use Rattle.pn_join.specs.BlockEdits.{changes_in_blocks, puts_in_blocks, placed, placed_at, AreAimedAtBlocks}
+use Rattle.pn_join.specs.Edits.{changes_in_blocks, puts_in_blocks, placed, placed_at, AreAimedAtBlocks, changes_in, puts_in, AreAimed, IsAimed}
 use Rattle.pn_join.specs.Blocks.{in_blocks, entries_in}
-use Rattle.pn_join.specs.Edits.{changes_in, puts_in, AreAimed, IsAimed}
 use Rattle.pn_join.specs.Leaves.{leaf_for}
-use Rattle.pn_join.specs.TableChanges.{Changes, AreChanges}
-use Rattle.pn_join.specs.Tables.{IsTable, optional_joined}
+use Rattle.pn_join.specs.Tables.{Changes, AreChanges, IsTable, optional_joined}
 use Rattle.pn_join.specs.declared.table.block_edits.BlockEdits.{BlockEdits}
 use Rattle.pn_join.specs.declared.table.change.TableChange.{TableChange}
 use Rattle.pn_join.specs.declared.table.edit.Edit.{Edit}
 use Rattle.pn_join.proofs.Changing.{those_push, zip_push}
-use Rattle.pn_join.proofs.Each.{each_prefix, each_back, each_append}
+use Rattle.pn_join.proofs.Rising.{each_prefix, each_back, each_append}
 
 module _ {K C : Type 0} where
   placed_append : (i : ℕ) (es fs : List (Edit K C)) → placed_at i (es ++ fs) ≡ placed_at i es ++ placed_at i fs

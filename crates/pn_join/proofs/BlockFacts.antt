@@ -8,11 +8,10 @@ use Rattle.std.proofs.lemmas.List.{length-append}
 use Rattle.std.proofs.lemmas.List.Concat.{flat_map-append}
 use Rattle.pn_join.specs.Blocks.{in_blocks, entries_in, AreBlocks}
 use Rattle.pn_join.specs.Leaves.{all_entries, counts_after, begins_below, ends_below, leaf_for, IsLeaf, IsLeafList}
-use Rattle.pn_join.proofs.Each.{each_prefix, each_back, each_weaker}
+use Rattle.pn_join.proofs.Rising.{each_prefix, each_back, each_weaker, Rising, Rising-from_sorted}
 use Rattle.pn_join.proofs.EditSteps.{each_at}
-use Rattle.pn_join.proofs.LeafListIndices.{leaf_at, leaf_at-prefix, entry_in_list, rest_in_list}
+use Rattle.pn_join.proofs.LeafListFacts.{leaf_at, leaf_at-prefix, entry_in_list, rest_in_list}
 use Rattle.pn_join.proofs.LeafListSearch.{parted, leaf_for-search, find_in_list}
-use Rattle.pn_join.proofs.Rising.{Rising, Rising-from_sorted}
 
 pub take_whole : {A : Type 0} (xs : List A) (n : ℕ) → length xs ≤ n → take n xs ≡ xs
 take_whole [] zero le = refl

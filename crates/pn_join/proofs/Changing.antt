@@ -7,16 +7,12 @@ use Rattle.std.proofs.lemmas.Cmp.{tied_itself}
 use Rattle.std.specs.FinMap.{find, put}
 use Rattle.std.specs.FinMap.Entries.{find-put}
 use Rattle.pn_join.specs.Edits.{changes_in, AreAimed, IsAimed}
-use Rattle.pn_join.specs.Laws.{JoinLaws}
+use Rattle.pn_join.specs.Tables.{JoinLaws, Changes, AreChanges, AreValid, those_there, puts, IsTable, contents_at, optional_joined, key_by_key}
 use Rattle.pn_join.specs.Leaves.{all_entries, leaf_for}
-use Rattle.pn_join.specs.TableChanges.{Changes, AreChanges, AreValid, those_there, puts}
-use Rattle.pn_join.specs.Tables.{IsTable, contents_at, optional_joined, key_by_key}
 use Rattle.pn_join.specs.declared.table.change.TableChange.{TableChange}
 use Rattle.pn_join.specs.declared.table.edit.Edit.{Edit}
-use Rattle.pn_join.proofs.Each.{each_back, each_append}
-use Rattle.pn_join.proofs.JoinAll.{JoinsSoFar, none_joined, one_joined, all_joined}
-use Rattle.pn_join.proofs.Puts.{contents_at-put, contents_at-same}
-use Rattle.pn_join.proofs.Rising.{Below, Rising, Rising-from_sorted, flipped}
+use Rattle.pn_join.proofs.Rising.{each_back, each_append, Below, Rising, Rising-from_sorted, flipped}
+use Rattle.pn_join.proofs.Puts.{JoinsSoFar, none_joined, one_joined, all_joined, contents_at-put, contents_at-same}
 
 -- the edits so far, and the other's remaining entries
 pub record EditsSoFar {K C M : Type 0} (cmp : K → K → Ordering) (meaning : C → M) (joined : M → M → M) (valid : C → Type 0) (list : List (List (K × C))) (other left : List (K × C)) (edits : List (Edit K C)) : Type 0 where
@@ -162,6 +158,6 @@ module _ {K C M : Type 0} (cmp : K → K → Ordering) (o : IsTotalOrder cmp) (m
         ∙ ap (option_map meaning) (sym all.0.before)))
 
   -- a join that changes no content tells of none
-  pub nothing_told : (own other : List (K × C)) (changes : List (TableChange K C)) → IsTable cmp valid other → AreChanges cmp meaning joined valid own other changes → contents_at cmp meaning own ≡ key_by_key joined (contents_at cmp meaning own) (contents_at cmp meaning other) → changes ≡ []
-  nothing_told own other changes others are same =
+  pub nothing_changed : (own other : List (K × C)) (changes : List (TableChange K C)) → IsTable cmp valid other → AreChanges cmp meaning joined valid own other changes → contents_at cmp meaning own ≡ key_by_key joined (contents_at cmp meaning own) (contents_at cmp meaning other) → changes ≡ []
+  nothing_changed own other changes others are same =
       are.are ∙ none_made own other same other are.made (each_found other (Rising-from_sorted cmp other others.rising)) are.each

@@ -6,13 +6,12 @@ use Rattle.pn_join.specs.Edits.{put_at, put_all, AreFew, GoUp, IsReady, IsReadyA
 use Rattle.pn_join.specs.declared.table.leaf_join.TheConstants.{MAX_LEAF_ENTRIES}
 use Rattle.pn_join.specs.declared.table.edit.Edit.{Edit}
 use Rattle.pn_join.specs.declared.table.leaf.Leaf.{Leaf}
-use Rattle.pn_join.specs.LeafEntries.{leaf_entries, leaves_of}
+use Rattle.pn_join.specs.Leaves.{leaf_entries, leaves_of}
 use Rattle.std.proofs.lemmas.List.{take_more}
-use Rattle.pn_join.proofs.Each.{each_append}
-use Rattle.pn_join.proofs.Partitions.{get_or-leaves}
+use Rattle.pn_join.proofs.Rising.{each_append, get_or-leaves}
 use Rattle.pn_join.proofs.LeafListFacts.{length-leaves}
-use Rattle.pn_join.proofs.LeafListGrowth.{same_leaves}
-use Rattle.pn_join.proofs.PutFacts.{put_grows, put_by_one}
+use Rattle.pn_join.proofs.SliceFacts.{same_leaves}
+use Rattle.pn_join.proofs.Puts.{put_grows, put_by_one}
 
 -- a list in which one element is replaced
 module _ {A : Type 0} (P : A → Type 0) where

@@ -6,19 +6,16 @@ use Rattle.std.specs.Cmp.{IsTotalOrder}
 use Rattle.std.specs.FinMap.{put, is_sorted}
 use Rattle.std.specs.FinMap.Entries.{is_sorted-put}
 use Rattle.pn_join.specs.Edits.{put_at, put_all, AreFew, GoUp, IsReady, IsReadyAt}
-use Rattle.pn_join.specs.LeafEntries.{leaf_entries, leaves_of}
-use Rattle.pn_join.specs.Leaves.{all_entries, AreEntryCounts}
+use Rattle.pn_join.specs.Leaves.{leaf_entries, leaves_of, all_entries, AreEntryCounts, raised_from, FitFrom}
 use Rattle.pn_join.specs.declared.table.leaf_join.TheConstants.{MAX_LEAF_ENTRIES}
-use Rattle.pn_join.specs.LeafListChanges.{raised_from, FitFrom}
 use Rattle.pn_join.specs.declared.table.edit.Edit.{Edit}
 use Rattle.pn_join.specs.declared.table.leaf.Leaf.{Leaf}
 use Rattle.pn_join.proofs.EditSteps.{each_set, each_at, each_ready, ready_at, ready_within, put_fits}
-use Rattle.pn_join.proofs.Partitions.{get_or-leaves}
-use Rattle.pn_join.proofs.PutFacts.{put_by_one}
+use Rattle.pn_join.proofs.Rising.{get_or-leaves}
+use Rattle.pn_join.proofs.Puts.{put_by_one}
 use Rattle.pn_join.proofs.LeafListEdits.{fit_at, fit_counts, fit_twice, raise_none, raise_twice, length-raised, counts_with_back}
-use Rattle.pn_join.proofs.LeafListFacts.{length-leaves}
-use Rattle.pn_join.proofs.LeafListGrowth.{leaves_of-set}
-use Rattle.pn_join.proofs.LeafListIndices.{length-counts}
+use Rattle.pn_join.proofs.LeafListFacts.{length-leaves, length-counts}
+use Rattle.pn_join.proofs.SliceFacts.{leaves_of-set}
 
 is_so : (b : Bool) → T b → b ≡ true
 is_so true h = refl

@@ -2,23 +2,21 @@
 use Rattle.std.proofs.Common.{◌≡◌, ℕ, zero, suc, ◌<◌, List, [], ◌∷◌, ◌++◌, length, get_or, set, Ordering, refl, sym, ap, ◌∙◌, subst, arith, append-nil, append_assoc}
 use Rattle.std.specs.List.{AllByRecursion}
 use Rattle.std.specs.Cmp.{IsTotalOrder}
-use Rattle.pn_join.specs.BlockEdits.{changes_in_blocks, AreAimedAtBlocks}
+use Rattle.pn_join.specs.Edits.{changes_in_blocks, AreAimedAtBlocks, changes_in, AreAimed}
 use Rattle.pn_join.specs.Blocks.{in_blocks, entries_in, AreBlocks}
-use Rattle.pn_join.specs.Edits.{changes_in, AreAimed}
 use Rattle.pn_join.specs.Leaves.{all_entries, leaf_for}
-use Rattle.pn_join.specs.TableChanges.{AreValid, puts}
+use Rattle.pn_join.specs.Tables.{AreValid, puts}
 use Rattle.pn_join.specs.TakenBlocks.{filled, was, becomes, ArePut, AreWithin, IsTaken, StayTaken}
 use Rattle.pn_join.specs.declared.table.block_edits.BlockEdits.{BlockEdits}
 use Rattle.pn_join.specs.declared.table.block_list.taking.Taken.{Taken}
 use Rattle.pn_join.specs.declared.table.change.TableChange.{TableChange}
 use Rattle.pn_join.specs.declared.table.edit.Edit.{Edit}
 use Rattle.pn_join.proofs.BlockChanging.{changes_pushed}
-use Rattle.pn_join.proofs.BlockEditPuts.{puts-append}
+use Rattle.pn_join.proofs.EditPuts.{puts-append}
 use Rattle.pn_join.proofs.BlockFacts.{all_in_blocks, at_block, length-in_blocks, blocks_some}
 use Rattle.pn_join.proofs.BlockJoin.{in_blocks-set}
-use Rattle.pn_join.proofs.BlockPuts.{BelongAt, block_put, block_stays}
-use Rattle.pn_join.proofs.Each.{each_prefix, each_back}
-use Rattle.pn_join.proofs.EditJoins.{Stand}
+use Rattle.pn_join.proofs.EditJoins.{BelongAt, block_put, block_stays, Stand}
+use Rattle.pn_join.proofs.Rising.{each_prefix, each_back}
 use Rattle.pn_join.proofs.EditSteps.{length_set}
 
 module _ {A : Type 0} where

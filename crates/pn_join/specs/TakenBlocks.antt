@@ -1,15 +1,24 @@
 -- Blocks that were taken out of a list to be opened, and the list with each of them back in its place.
-use Rattle.std.specs.Prelude.{◌≡◌, ℕ, ◌<◌, List, [], ◌∷◌, ◌++◌, length, get_or, set}
+use Rattle.std.specs.Prelude.{◌≡◌, List, ℕ, ◌<◌, [], ◌∷◌, ◌++◌, length, get_or, set}
 use Rattle.std.specs.declared.cmp.Ordering.{Ordering}
 use Rattle.std.specs.List.{AllByRecursion}
+use Rattle.pn_join.specs.declared.table.block.opening.Opening.{Opening}
+use Rattle.pn_join.specs.declared.table.block.opening.Opening.TheVariants.{Open, Full, NoMemory}
+use Rattle.pn_join.specs.declared.table.change.TableChange.{TableChange}
+use Rattle.pn_join.specs.Leaves.{all_entries}
+use Rattle.pn_join.specs.Tables.{puts, IsTable}
 use Rattle.pn_join.specs.Blocks.{in_blocks, entries_in}
 use Rattle.pn_join.specs.Edits.{changes_in}
-use Rattle.pn_join.specs.Leaves.{all_entries}
-use Rattle.pn_join.specs.TableChanges.{puts}
-use Rattle.pn_join.specs.Tables.{IsTable}
 use Rattle.pn_join.specs.declared.table.block_edits.BlockEdits.{BlockEdits}
 use Rattle.pn_join.specs.declared.table.block_list.taking.Taken.{Taken}
-use Rattle.pn_join.specs.declared.table.change.TableChange.{TableChange}
+
+-- What opening a block for changes gives.
+
+-- the open block has these entries, and those with all changes; one that is not open has the same entries
+abbrev pub IsOpening : {K C : Type 0} → (K → K → Ordering) → List (K × C) → List (TableChange K C) → Opening K C → Type 0
+IsOpening cmp entries changes (Open block) = (block.0 ≡ entries) × (block.1 ≡ puts cmp entries changes)
+IsOpening cmp entries changes (Full block) = all_entries block ≡ entries
+IsOpening cmp entries changes (NoMemory block) = all_entries block ≡ entries
 
 -- the entries of each block, with what the taken ones have, those taken last put back first
 abbrev pub filled : {K C : Type 0} → (Taken K C → List (K × C)) → List (Taken K C) → List (List (K × C)) → List (List (K × C))

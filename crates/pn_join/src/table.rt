@@ -1,13 +1,12 @@
 //! Tables: finite maps in key order that join key by key.
 
-ghost use Rattle.std.specs.Prelude.{◌≡◌, ◌^◌, ◌<◌, ◌≤◌, ◌∷◌, [], ◌++◌, List, length, map, option_map, slice_get, slice_range, drop, count_by, IsTrue, IfOk, IfSome, OnOk, OnErr};
+ghost use Rattle.std.specs.Prelude.{◌≡◌, ◌^◌, ◌<◌, ◌≤◌, ◌∷◌, [], ◌++◌, List, length, map, option_map, slice_get, slice_range, drop, count_by, IsTrue, IfOk};
+ghost use Rattle.std.specs.Prelude.{IfSome, OnOk, OnErr};
 ghost use Rattle.std.specs.Option.{option_copied};
 ghost use Rattle.std.specs.Ordering.{is_lt};
 ghost use Rattle.std.specs.FinMap.{find, put, is_sorted};
-ghost use Rattle.pn_join.specs.Tables.{contents_at, key_by_key, IsTable};
-ghost use Rattle.pn_join.specs.Leaves.{all_entries, AreLeavesOf};
-ghost use Rattle.pn_join.specs.PutInLeaves.{ChangesOneLeaf};
-ghost use Rattle.pn_join.specs.TableChanges.{AreChanges};
+ghost use Rattle.pn_join.specs.Tables.{contents_at, key_by_key, IsTable, AreChanges};
+ghost use Rattle.pn_join.specs.Leaves.{all_entries, AreLeavesOf, ChangesOneLeaf};
 
 mod block;
 mod block_edits;
@@ -209,7 +208,7 @@ impl<K: Ord + Dup, C: Join> Table<K, C> {
 
     /// Joins the other table into this one. Returns exactly the keys whose contents now mean something else, in
     /// key order. An error leaves the table as it was.
-    pub fn join_and_tell(&mut self, other: &Self) -> Result<Vec<TableChange<K, C>>, NoMemory>
+    pub fn join_with_changes(&mut self, other: &Self) -> Result<Vec<TableChange<K, C>>, NoMemory>
         ensures ok { OnOk result (contents_at K.cmp C.meaning self.new
             ≡ key_by_key C.joined (contents_at K.cmp C.meaning self.old) (contents_at K.cmp C.meaning other.now)) }
         ensures changes { IfOk result (λ changes. AreChanges K.cmp C.meaning C.joined C.valid self.old other.now changes.items) }
@@ -218,12 +217,12 @@ impl<K: Ord + Dup, C: Join> Table<K, C> {
     {
         self.recall_table();
         other.recall_table();
-        let told = self.leaf_list.join_and_tell(&other.leaf_list)?;
-        if told.is_done {
-            return Ok(told.changes);
+        let bulk = self.leaf_list.join_with_changes(&other.leaf_list)?;
+        if bulk.is_done {
+            return Ok(bulk.changes);
         }
         *self = self.join_with(other)?;
-        Ok(told.changes)
+        Ok(bulk.changes)
     }
 }
 
@@ -238,7 +237,7 @@ impl<K: Ord + Dup, C: Join> Dup for Table<K, C> {
 impl<K: Ord + Dup, C: Join> Join for Table<K, C> {
     ghost use Rattle.std.specs.Prelude.{Option};
     ghost use Rattle.pn_join.specs.Tables.{contents_at, key_by_key, IsTable};
-    ghost use Rattle.pn_join.specs.Proofs.TableLaws.{key_by_key-laws};
+    ghost use Rattle.pn_join.specs.Proofs.{key_by_key-laws};
 
     ghost Meaning = { K → Option C.Meaning };
 
@@ -266,7 +265,7 @@ impl<K: Ord + Dup, C: Join> Join for Table<K, C> {
 
     fn changed_by(&self, other: &Self) -> Result<Option<Self>, NoMemory> {
         let mut joined = self.dup()?;
-        let changes = joined.join_and_tell(other)?;
+        let changes = joined.join_with_changes(other)?;
         if changes.is_empty() {
             return Ok(None);
         }

@@ -1,13 +1,108 @@
-//! JSON added to what a buffer holds that has room for it. Nothing is asked of memory where it has.
+//! JSON added to what a buffer holds that has room for it, and how far a text needs no escape.
 
-ghost use Rattle.std.specs.Prelude.{◌≡◌, ◌∷◌, ◌<◌, [], decimal};
+ghost use Rattle.std.specs.Prelude.{◌≡◌, ◌+◌, ◌≤◌, drop, length, map, ◌∷◌, ◌<◌, [], decimal};
+ghost use Rattle.std.specs.List.{prefix_len};
+ghost use Rattle.std.specs.Simd.Lanes.{mask_l};
 ghost use Rattle.std.specs.Char.{digit_char};
 ghost use Rattle.std.specs.Fmt.{signed_decimal};
+ghost use Rattle.json.specs.Run.{is_plain, is_stop};
 ghost use Rattle.json.specs.Print.{escape, escape_byte, escape_letter, quoted};
 ghost use Rattle.serde_json.specs.Written.{comma_if};
-ghost use Rattle.pn_json.specs.AppendedText.{AppendsText};
+ghost use Rattle.pn_json.specs.Tokens.{AppendsText};
 
-use crate::plain::plain_end;
+use std::simd::prelude::*;
+
+/// The first byte from an index on that needs an escape, or the end.
+pub(crate) fn plain_end(bytes: &[u8], from: usize) -> usize
+    requires { from ≤ length bytes.now }
+    ensures value { result ≡ from + prefix_len is_plain (drop from bytes.now) }
+    ensures within { result ≤ length bytes.now }
+{
+    let mut end = from;
+    while bytes.len() - end >= 32 {
+        let stops = stops_of_32(u8x32::from_slice(&bytes[end..]));
+        if stops != 0 {
+            return end + stops.trailing_zeros() as usize;
+        }
+        end += 32;
+    }
+    plain_end_by_8(bytes, end)
+}
+
+// The same, eight bytes at a time.
+fn plain_end_by_8(bytes: &[u8], from: usize) -> usize
+    requires { from ≤ length bytes.now }
+    ensures value { result ≡ from + prefix_len is_plain (drop from bytes.now) }
+    ensures within { result ≤ length bytes.now }
+{
+    let mut end = from;
+    while bytes.len() - end >= 8 {
+        let stops = stops_of_8(u8x8::from_slice(&bytes[end..]));
+        if stops != 0 {
+            return end + stops.trailing_zeros() as usize;
+        }
+        end += 8;
+    }
+    plain_end_by_4(bytes, end)
+}
+
+// The same, four bytes at a time.
+fn plain_end_by_4(bytes: &[u8], from: usize) -> usize
+    requires { from ≤ length bytes.now }
+    ensures value { result ≡ from + prefix_len is_plain (drop from bytes.now) }
+    ensures within { result ≤ length bytes.now }
+{
+    let mut end = from;
+    while bytes.len() - end >= 4 {
+        let stops = stops_of_4(u8x4::from_slice(&bytes[end..]));
+        if stops != 0 {
+            return end + stops.trailing_zeros() as usize;
+        }
+        end += 4;
+    }
+    plain_end_by_1(bytes, end)
+}
+
+// The same, one byte at a time.
+fn plain_end_by_1(bytes: &[u8], from: usize) -> usize
+    requires { from ≤ length bytes.now }
+    ensures value { result ≡ from + prefix_len is_plain (drop from bytes.now) }
+    ensures within { result ≤ length bytes.now }
+{
+    let mut end = from;
+    while end < bytes.len() && bytes[end] != b'"' && bytes[end] != b'\\' && bytes[end] >= 0x20 {
+        end += 1;
+    }
+    end
+}
+
+// A bit for each byte that needs an escape, the lowest for the first.
+#[inline(always)]
+fn stops_of_32(bytes: u8x32) -> u64
+    ensures { result ≡ mask_l (map is_stop bytes) }
+{
+    (bytes.simd_eq(u8x32::splat(b'"'))
+        | bytes.simd_eq(u8x32::splat(b'\\'))
+        | bytes.simd_lt(u8x32::splat(0x20))).to_bitmask()
+}
+
+#[inline(always)]
+fn stops_of_8(bytes: u8x8) -> u64
+    ensures { result ≡ mask_l (map is_stop bytes) }
+{
+    (bytes.simd_eq(u8x8::splat(b'"'))
+        | bytes.simd_eq(u8x8::splat(b'\\'))
+        | bytes.simd_lt(u8x8::splat(0x20))).to_bitmask()
+}
+
+#[inline(always)]
+fn stops_of_4(bytes: u8x4) -> u64
+    ensures { result ≡ mask_l (map is_stop bytes) }
+{
+    (bytes.simd_eq(u8x4::splat(b'"'))
+        | bytes.simd_eq(u8x4::splat(b'\\'))
+        | bytes.simd_lt(u8x4::splat(0x20))).to_bitmask()
+}
 
 /// Adds a text as it is.
 pub fn append_text(out: &mut Vec<u8>, text: &str)

@@ -6,7 +6,6 @@
 mod appending;
 mod line;
 mod members;
-mod plain;
 
 pub use appending::{
     append_bytes, append_comma, append_number, append_signed_number, append_string, append_text,

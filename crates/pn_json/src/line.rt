@@ -2,8 +2,7 @@
 
 ghost use Rattle.std.specs.Prelude.{◌≡◌, IfOk, OnOk};
 ghost use Rattle.serde_json.specs.Data.{Data, null, string, number, unsigned};
-ghost use Rattle.pn_json.specs.Lines.{line_of};
-ghost use Rattle.pn_json.specs.Tokens.{Appends, IsBegun, HasValue, member_tokens};
+ghost use Rattle.pn_json.specs.Tokens.{line_of, Appends, IsBegun, HasValue, member_tokens};
 
 use json::Writer;
 use pn_join::NoMemory;

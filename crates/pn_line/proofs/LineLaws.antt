@@ -1,8 +1,14 @@
--- What stays known of a line as it grows.
-use Rattle.std.proofs.Common.{◌≡◌, ℕ, zero, suc, ◌+◌, ◌-◌, ◌<◌, ◌≤◌, min, List, [], ◌∷◌, ◌++◌, length, take, refl, sym, ap, ◌∙◌, arith, append-nil, append_assoc, length-append}
-use Rattle.std.proofs.lemmas.List.{take_min, take_all, take-take, length-take}
-use Rattle.pn_line.specs.Line.{LineBufferValue, with_bytes, so_far, kept_bytes, max_kept}
+-- What stays known of a line as it grows, and as it is taken one piece after another.
+use Rattle.std.proofs.Common.{◌≡◌, ℕ, zero, suc, ◌+◌, ◌-◌, ◌<◌, ◌≤◌, min, List, [], ◌∷◌, ◌++◌, length, take, refl, sym, ap, ◌∙◌, arith, append-nil, append_assoc, length-append, ◌≢◌, Option, None, Some, OnSome, subst, eq-eqb, eqb-true, get_or-take}
+use Rattle.std.proofs.lemmas.List.{take_min, take_all, take-take, length-take, take_more}
+use Rattle.std.proofs.lemmas.List.Elements.{All-nil, All-append, All-from_get_or}
+use Rattle.std.specs.Io.KnownBytes.{Consumes}
+use Rattle.std.proofs.KnownBytes.{Consumes-nil, Consumes-trans}
+use Rattle.memchr.specs.Find.{IsFirstByte, is_byte}
+use Rattle.pn_line.specs.Line.{LineBufferValue, with_bytes, so_far, kept_bytes, max_kept, Takes, Splits, IsUnbroken}
 use Rattle.pn_line.specs.declared.line_buffer.TheConstants.{MAX_LINE_BYTES, MAX_KEPT_BYTES}
+
+-- What stays known of a line as it grows.
 
 -- two lines that keep the same bytes and as many bytes
 same_line : (f g : List ℕ) (m n : ℕ) → f ≡ g → m ≡ n → (let r : LineBufferValue = record { bytes = f; count = m } in r) ≡ record { bytes = g; count = n }
@@ -64,3 +70,55 @@ length-kept_bytes_long line long = length-take MAX_KEPT_BYTES line ∙ omega ari
 -- what is kept of what is kept
 pub kept_bytes-kept_bytes : (line : List ℕ) → kept_bytes (kept_bytes line) ≡ kept_bytes line
 kept_bytes-kept_bytes line = take-take max_kept max_kept line (omega arith)
+
+-- How what was taken for a line joins, one piece after another.
+
+-- before the first piece nothing is taken
+pub Takes-none : (line : LineBufferValue) (a : Option (List ℕ)) → Takes line line a a []
+Takes-none line a = record { taken = []; unbroken = All-nil (λ b. b ≢ 10); line = sym (with_bytes-nil line); source = Consumes-nil a }
+
+-- some bytes of the line, and then others with what is after them
+pub Takes-trans : {l m n : LineBufferValue} {a b c : Option (List ℕ)} {after : List ℕ} → Takes l m a b [] → Takes m n b c after → Takes l n a c after
+Takes-trans {l = l} {a = a} {b = b} {c = c} {after = after} first second =
+    let P : List ℕ → Type 0 = Consumes a c in
+    record {
+      taken = first.taken ++ second.taken;
+      unbroken = All-append (λ b. b ≢ 10) _ _ first.unbroken second.unbroken;
+      line = second.line ∙ ap (λ line. with_bytes line second.taken) first.line ∙ with_bytes-append l first.taken second.taken;
+      source = subst P (ap (λ l. l ++ (second.taken ++ after)) (append-nil first.taken) ∙ sym (append_assoc first.taken second.taken after))
+          (Consumes-trans a b c _ _ first.source second.source);
+    }
+
+-- what holds of known bytes holds where both parts of them are known
+pub known_before : (P : Type 0) (first between : Option (List ℕ)) (bs : List ℕ) → Consumes first between bs → OnSome between P → OnSome first P
+known_before P None between bs consumed holds = tt
+known_before P (Some xs) None bs consumed holds = absurd consumed
+known_before P (Some xs) (Some ys) bs consumed holds = holds
+
+-- of known bytes nothing is asked
+pub on_any : (known : Option (List ℕ)) → OnSome known (Unit {0})
+on_any None = tt
+on_any (Some bytes) = tt
+
+-- What a search for a newline says of the bytes before it.
+
+-- before the first newline there is none
+IsUnbroken-before : (hay : List ℕ) (at : ℕ) → IsFirstByte (is_byte 10) hay (Some at) → IsUnbroken (take at hay)
+IsUnbroken-before hay at found =
+    All-from_get_or (λ b. b ≢ 10) (take at hay) 0
+    (λ k below is.
+    let before : k < at = omega (arith, length-take at hay) in
+    found.0.before k (omega arith) before (eq-eqb _ _ (sym (get_or-take at hay k 0 before) ∙ is)))
+
+-- the bytes before the first newline go to the line
+pub Splits-ended : (line new : LineBufferValue) (shown : List ℕ) (m at : ℕ) → IsFirstByte (is_byte 10) (take m shown) (Some at) → new ≡ with_bytes line (take at (take m shown))
+    → Splits line new (take (at + 1) shown) (10 ∷ [])
+Splits-ended line new shown m at found grown =
+    let window = take m shown in
+    let below : at + 1 ≤ m = omega (arith, found.0.high, length-take m shown) in
+    record {
+      taken = take at window;
+      unbroken = IsUnbroken-before window at found;
+      line = grown;
+      whole = sym (take-take (at + 1) m shown below) ∙ take_more window at 0 found.0.high ∙ ap (λ b. take at window ++ b ∷ []) (eqb-true _ _ found.1);
+    }

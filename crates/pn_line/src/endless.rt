@@ -1,20 +1,19 @@
-//! A source that never ends, and whose looks are counted.
-ghost use Rattle.std.specs.Prelude.{◌≡◌, ◌≢◌, ◌+◌, ◌-◌, ◌<◌, ◌≤◌, ◌^◌, true, false, List, ℕ, [], Ok, None, IfOk, IfSome, OnErr, OnSome, length, min};
-ghost use Rattle.std.specs.Io.KnownBytes.{IsAtEnd, Keeps};
-ghost use Rattle.pn_line.specs.Reads.{Takes, newline_after, HasMore};
+//! A source that never ends, and whose polls are counted.
+ghost use Rattle.std.specs.Prelude.{◌≡◌, ◌≢◌, ◌+◌, ◌-◌, ◌<◌, ◌≤◌, ◌^◌, true, false, List, ℕ, [], Ok, None, IfOk, IfSome, OnErr, length, min};
+ghost use Rattle.std.specs.Io.KnownBytes.{Keeps};
+ghost use Rattle.pn_line.specs.Line.{TakesPiece};
 
-use crate::line_buffer::{ENDLESS, LineBuffer};
-use crate::piece::{Piece, take_piece};
+use crate::line_buffer::{ENDLESS, LineBuffer, Piece, take_piece};
 use crate::source::Source;
 use std::io;
 use std::marker::Model;
 
-/// A text that is read again and again, and so has no end. Its looks are counted, up to the greatest number.
+/// A text that is read again and again, and so has no end. Its polls are counted, up to the greatest number.
 #[derive(Debug, Drop)]
 pub struct EndlessSource<'a> {
     text: &'a [u8],
     rest: &'a [u8],
-    looks: u128,
+    polls: u128,
 }
 
 impl<'a> Model for EndlessSource<'a> {
@@ -22,13 +21,13 @@ impl<'a> Model for EndlessSource<'a> {
 
     ghost Value = { ℕ };
 
-    ghost view = { λ source. source.looks };
+    ghost view = { λ source. source.polls };
 
     ghost invariant = { λ source. (0 < length source.text.now) × (0 < length source.rest.now) };
 }
 
 impl<'a> EndlessSource<'a> {
-    /// A source of this text without end, at which nobody has looked yet.
+    /// A source of this text without end, that nobody has polled yet.
     pub fn new(text: &'a [u8]) -> EndlessSource<'a>
         requires { 0 < length text.now }
         ensures { result ≡ 0 }
@@ -36,14 +35,14 @@ impl<'a> EndlessSource<'a> {
         EndlessSource {
             text,
             rest: text,
-            looks: 0,
+            polls: 0,
         }
     }
 
     fn count_look(&mut self)
         ensures { self.new ≡ min (self.old + 1) (2 ^ 128 - 1) }
     {
-        self.looks = self.looks.saturating_add(1);
+        self.polls = self.polls.saturating_add(1);
     }
 }
 
@@ -54,18 +53,14 @@ impl Source for EndlessSource<'_> {
 
     ghost may_end = { ⊥ };
 
-    ghost looks = { λ source. source };
+    ghost polls = { λ source. source };
 
-    /// Counts as a look, and never fails or ends.
+    /// Counts as a poll, and never fails or ends.
     fn take_some(&mut self, line: &mut LineBuffer) -> io::Result<Piece>
         requires { line.old.count < ENDLESS }
-        ensures takes { IfOk result (λ piece. Takes line.old line.new None None (newline_after piece)) }
-        ensures part { result ≡ Ok Piece.Part → line.old.count < line.new.count }
-        ensures below { result ≢ Ok Piece.Part → line.new.count < ENDLESS }
-        ensures end { result ≡ Ok Piece.NoMore → OnSome {T = List ℕ} None (IsAtEnd None) }
+        ensures takes { IfOk result (λ piece. TakesPiece piece line.old line.new None None) }
         ensures end_comes { result ≡ Ok Piece.NoMore → ⊥ }
-        ensures more { IfOk result (λ piece. OnSome {T = List ℕ} None (HasMore piece None)) }
-        ensures looks { self.new ≤ self.old + 1 }
+        ensures polls { self.new ≤ self.old + 1 }
         ensures fault { OnErr result ⊥ }
         ensures kept { OnErr result (Keeps None None) }
         ensures line_kept { OnErr result (line.new ≡ line.old) }
@@ -80,12 +75,12 @@ impl Source for EndlessSource<'_> {
         Ok(piece)
     }
 
-    /// Counts as a look, and always shows more.
+    /// Counts as a poll, and always shows more.
     fn has_more(&mut self) -> io::Result<bool>
         ensures more { result ≡ Ok true → IfSome {T = List ℕ} None (λ rest. rest ≢ []) }
         ensures end { result ≡ Ok false → IfSome {T = List ℕ} None (λ rest. rest ≡ []) }
         ensures end_comes { result ≡ Ok false → ⊥ }
-        ensures looks { self.new ≤ self.old + 1 }
+        ensures polls { self.new ≤ self.old + 1 }
         ensures fault { OnErr result ⊥ }
         ensures kept { Keeps None None }
         ensures counted { self.new ≡ min (self.old + 1) (2 ^ 128 - 1) }

@@ -1,18 +1,58 @@
-//! A source and a sink of which one chosen call fails. A contract sees their bytes, so that it says what a
-//! failed run read and wrote.
-ghost use Rattle.std.specs.Prelude.{◌≡◌, ◌≢◌, ◌-◌, ◌<◌, ◌≤◌, ◌↔◌, [], true, false, Ok, Some, IfOk, IfSome, IsErr, OnOk, OnErr, OnSome, length, max, min, take};
-ghost use Rattle.std.specs.Io.KnownBytes.{Appends, Keeps, IsAtEnd};
-ghost use Rattle.pn_line.specs.Reads.{Takes, newline_after, HasMore};
+//! A reader over bytes in memory, a reader that fails, and a writer that fails.
 
-use crate::in_memory::InMemory;
-use crate::line_buffer::{ENDLESS, LineBuffer};
-use crate::piece::Piece;
-use crate::sink::Sink;
+ghost use Rattle.std.specs.Prelude.{◌≡◌, Some, ◌≢◌, ◌-◌, ◌<◌, ◌≤◌, ◌↔◌, [], true, false, Ok, IfOk, IfSome, IsErr, OnOk, OnErr, length, max, min, take};
+ghost use Rattle.std.specs.Io.KnownBytes.{Appends, Keeps};
+ghost use Rattle.pn_line.specs.Line.{TakesPiece};
+
+use crate::line_buffer::{ENDLESS, LineBuffer, Piece, take_piece};
+use crate::sink::{Sink, WriteFault};
 use crate::source::Source;
-use crate::writing::WriteFault;
 use std::alloc::Global;
 use std::io;
 use std::marker::Model;
+
+/// The bytes in memory that are still to be read.
+#[derive(Debug, Drop)]
+pub struct InMemory<'a> {
+    rest: &'a [u8],
+}
+
+impl<'a> Model for InMemory<'a> {
+    ghost use Rattle.std.specs.Prelude.{ℕ, List};
+
+    ghost Value = { List ℕ };
+
+    ghost view = { λ source. source.rest.now };
+}
+
+impl<'a> InMemory<'a> {
+    /// A source with all of these bytes left.
+    pub fn new(bytes: &'a [u8]) -> InMemory<'a>
+        ensures { result ≡ bytes.now }
+    {
+        InMemory { rest: bytes }
+    }
+}
+
+impl Source for InMemory<'_> {
+    ghost left = { λ source. Some source };
+
+    ghost may_fail = { ⊥ };
+
+    ghost may_end = { Unit {0} };
+
+    ghost polls = { λ _. 0 };
+
+    fn take_some(&mut self, line: &mut LineBuffer) -> io::Result<Piece> {
+        let (count, piece) = take_piece(line, self.rest);
+        self.rest = &self.rest[count..];
+        Ok(piece)
+    }
+
+    fn has_more(&mut self) -> io::Result<bool> {
+        Ok(!self.rest.is_empty())
+    }
+}
 
 /// Calls that are counted down to the one that fails.
 #[derive(Debug, Drop)]
@@ -35,30 +75,30 @@ impl Countdown {
     }
 }
 
-/// Bytes in memory as a source of lines, of which one look fails. Later looks succeed.
+/// Bytes in memory as a source of lines, of which one poll fails. Later polls succeed.
 #[derive(Debug, Drop)]
 pub struct FailingSource<'a> {
     bytes: InMemory<'a>,
-    looks: Countdown,
+    polls: Countdown,
 }
 
 impl<'a> Model for FailingSource<'a> {
-    ghost use Rattle.pn_line.specs.Failing.{FailingSourceValue};
+    ghost use Rattle.pn_line.specs.Sent.{FailingSourceValue};
 
     ghost Value = { FailingSourceValue };
 
-    ghost view = { λ source. record { left = source.bytes; fails_at = source.looks.fails_at } };
+    ghost view = { λ source. record { left = source.bytes; fails_at = source.polls.fails_at } };
 }
 
 impl<'a> FailingSource<'a> {
-    /// A source with all of these bytes left. Look number `fails_at` fails, counted from 1; 0 means none.
+    /// A source with all of these bytes left. Poll number `fails_at` fails, counted from 1; 0 means none.
     pub fn new(bytes: &'a [u8], fails_at: usize) -> FailingSource<'a>
         ensures left { result.left ≡ bytes.now }
         ensures fails_at { result.fails_at ≡ fails_at }
     {
         FailingSource {
             bytes: InMemory::new(bytes),
-            looks: Countdown { fails_at },
+            polls: Countdown { fails_at },
         }
     }
 }
@@ -70,39 +110,35 @@ impl Source for FailingSource<'_> {
 
     ghost may_end = { Unit {0} };
 
-    ghost looks = { λ _. 0 };
+    ghost polls = { λ _. 0 };
 
-    /// Fails at the chosen look, and at no other.
+    /// Fails at the chosen poll, and at no other.
     fn take_some(&mut self, line: &mut LineBuffer) -> io::Result<Piece>
         requires { line.old.count < ENDLESS }
         ensures takes { IfOk result
-            (λ piece. Takes line.old line.new (Some self.old.left) (Some self.new.left) (newline_after piece)) }
-        ensures part { result ≡ Ok Piece.Part → line.old.count < line.new.count }
-        ensures below { result ≢ Ok Piece.Part → line.new.count < ENDLESS }
-        ensures end { result ≡ Ok Piece.NoMore → OnSome (Some self.old.left) (IsAtEnd (Some self.new.left)) }
-        ensures more { IfOk result (λ piece. OnSome (Some self.old.left) (HasMore piece (Some self.new.left))) }
+            (λ piece. TakesPiece piece line.old line.new (Some self.old.left) (Some self.new.left)) }
         ensures fault { OnErr result (Unit {0}) }
         ensures kept { OnErr result (Keeps (Some self.old.left) (Some self.new.left)) }
         ensures line_kept { OnErr result (line.new ≡ line.old) }
-        ensures looks { 0 ≤ 1 }
+        ensures polls { 0 ≤ 1 }
         ensures fails { IsErr result ↔ (self.old.fails_at ≡ 1) }
         ensures counted { self.new.fails_at ≡ self.old.fails_at - 1 }
     {
-        self.looks.call()?;
+        self.polls.call()?;
         self.bytes.take_some(line)
     }
 
-    /// Counts as a look, and fails if it is the chosen one.
+    /// Counts as a poll, and fails if it is the chosen one.
     fn has_more(&mut self) -> io::Result<bool>
         ensures more { result ≡ Ok true → IfSome (Some self.old.left) (λ rest. rest ≢ []) }
         ensures end { result ≡ Ok false → IfSome (Some self.old.left) (λ rest. rest ≡ []) }
         ensures fault { OnErr result (Unit {0}) }
         ensures kept { Keeps (Some self.old.left) (Some self.new.left) }
-        ensures looks { 0 ≤ 1 }
+        ensures polls { 0 ≤ 1 }
         ensures fails { IsErr result ↔ (self.old.fails_at ≡ 1) }
         ensures counted { self.new.fails_at ≡ self.old.fails_at - 1 }
     {
-        self.looks.call()?;
+        self.polls.call()?;
         self.bytes.has_more()
     }
 }
@@ -112,17 +148,17 @@ impl Source for FailingSource<'_> {
 #[derive(Debug, Drop)]
 pub struct FailingSink {
     contents: Vec<u8>,
-    handed_on: usize,
+    flushed: usize,
     most: usize,
     calls: Countdown,
 }
 
 impl Model for FailingSink {
-    ghost use Rattle.pn_line.specs.Failing.{FailingSinkValue};
+    ghost use Rattle.pn_line.specs.Sent.{FailingSinkValue};
 
     ghost Value = { FailingSinkValue };
 
-    ghost view = { λ sink. record { contents = sink.contents.items; handed_on = sink.handed_on; most = sink.most; fails_at = sink.calls.fails_at } };
+    ghost view = { λ sink. record { contents = sink.contents.items; flushed = sink.flushed; most = sink.most; fails_at = sink.calls.fails_at } };
 }
 
 impl FailingSink {
@@ -130,13 +166,13 @@ impl FailingSink {
     /// from 1; 0 means none.
     pub fn new(alloc: Global, most: usize, fails_at: usize) -> FailingSink
         ensures contents { result.contents ≡ [] }
-        ensures handed_on { result.handed_on ≡ 0 }
+        ensures flushed { result.flushed ≡ 0 }
         ensures most { result.most ≡ most }
         ensures fails_at { result.fails_at ≡ fails_at }
     {
         FailingSink {
             contents: Vec::new(alloc),
-            handed_on: 0,
+            flushed: 0,
             most,
             calls: Countdown { fails_at },
         }
@@ -149,11 +185,11 @@ impl FailingSink {
         &self.contents
     }
 
-    /// How many of these bytes were handed on.
-    pub fn handed_on(&self) -> usize
-        ensures { result ≡ self.now.handed_on }
+    /// How many of these bytes were flushed.
+    pub fn flushed(&self) -> usize
+        ensures { result ≡ self.now.flushed }
     {
-        self.handed_on
+        self.flushed
     }
 }
 
@@ -162,7 +198,7 @@ impl Sink for FailingSink {
 
     ghost may_fail = { Unit {0} };
 
-    ghost is_handed_on = { λ sink. sink.handed_on ≡ length sink.contents };
+    ghost is_flushed = { λ sink. sink.flushed ≡ length sink.contents };
 
     ghost has_failed = { λ _. Unit {0} };
 
@@ -177,7 +213,7 @@ impl Sink for FailingSink {
         ensures fails { self.old.fails_at ≡ 1 → IsErr result }
         ensures counted { self.new.fails_at ≡ self.old.fails_at - 1 }
         ensures most { self.new.most ≡ self.old.most }
-        ensures handed_on { self.new.handed_on ≡ self.old.handed_on }
+        ensures flushed { self.new.flushed ≡ self.old.flushed }
     {
         self.calls.call().map_err(WriteFault::Failed)?;
         let count = bytes.len().min(self.most.max(1));
@@ -188,15 +224,15 @@ impl Sink for FailingSink {
     }
 
     /// Fails if it is the chosen call, and only then.
-    fn hand_on(&mut self) -> Result<(), WriteFault>
-        ensures all { OnOk result (self.new.handed_on ≡ length self.new.contents) }
+    fn flush(&mut self) -> Result<(), WriteFault>
+        ensures all { OnOk result (self.new.flushed ≡ length self.new.contents) }
         ensures kept { Keeps (Some self.old.contents) (Some self.new.contents) }
         ensures fails { IsErr result ↔ (self.old.fails_at ≡ 1) }
         ensures counted { self.new.fails_at ≡ self.old.fails_at - 1 }
         ensures most { self.new.most ≡ self.old.most }
     {
         self.calls.call().map_err(WriteFault::Failed)?;
-        self.handed_on = self.contents.len();
+        self.flushed = self.contents.len();
         Ok(())
     }
 }

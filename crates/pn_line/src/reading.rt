@@ -1,11 +1,8 @@
 //! Reads one line from a source, up to and with its newline.
-ghost use Rattle.std.specs.Prelude.{◌≡◌, ◌≢◌, ◌+◌, ◌<◌, ◌≤◌, ◌↔◌, [], Ok, IfOk, OnErr, OnSome};
-ghost use Rattle.std.specs.Io.KnownBytes.{IsAtEnd};
-ghost use Rattle.pn_line.specs.Reads.{Takes};
-ghost use Rattle.pn_line.specs.LineEnd.{newline_taken, HasNext, ReadsTo};
+ghost use Rattle.std.specs.Prelude.{◌≡◌, ◌+◌, ◌<◌, ◌≤◌, [], Ok, IfOk, OnErr};
+ghost use Rattle.pn_line.specs.Line.{Takes, ReadsTo, ReadsUpTo};
 
-use crate::line_buffer::{ENDLESS, LineBuffer};
-use crate::piece::Piece;
+use crate::line_buffer::{ENDLESS, LineBuffer, Piece};
 use crate::source::Source;
 use std::io;
 
@@ -26,20 +23,14 @@ pub enum LineEnd {
 /// Appends to the line until its newline was taken, the source is at its end, or the line has `ENDLESS`
 /// bytes. Allocates nothing.
 ///
-/// Each byte takes at most one look at the source, and the end of the line one more.
+/// Each byte takes at most one poll of the source, and the end of the line one more.
 ///
 /// After an error of the reader, `Interrupted` too, the line keeps what was read, and a later call goes on with it.
 pub fn read_line<S: Source>(line: &mut LineBuffer, source: &mut S) -> io::Result<LineEnd>
-    ensures takes { IfOk result (λ end.
-        Takes line.old line.new (S.left source.old) (S.left source.new) (newline_taken end)) }
-    ensures end { IfOk result (λ end. end ≡ LineEnd.EndOfInput
-        → OnSome (S.left source.old) (IsAtEnd (S.left source.new))) }
-    ensures endless { IfOk result (λ end. (end ≡ LineEnd.Endless) ↔ (line.new.count ≡ ENDLESS)) }
-    ensures below { IfOk result (λ end. end ≢ LineEnd.Endless → line.new.count < ENDLESS) }
+    ensures reads { IfOk result (λ end. ReadsUpTo end line.old line.new (S.left source.old) (S.left source.new)) }
     ensures end_comes { result ≡ Ok LineEnd.EndOfInput → S.may_end }
-    ensures more { IfOk result (λ end. OnSome (S.left source.old) (HasNext end (S.left source.new))) }
     ensures grows { line.old.count ≤ line.new.count }
-    ensures looks { S.looks source.new + line.old.count ≤ S.looks source.old + line.new.count + 1 }
+    ensures polls { S.polls source.new + line.old.count ≤ S.polls source.old + line.new.count + 1 }
     ensures fault { OnErr result S.may_fail }
     ensures kept { OnErr result
         (Takes line.old line.new (S.left source.old) (S.left source.new) []) }

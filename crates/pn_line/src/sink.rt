@@ -1,10 +1,50 @@
-//! Where bytes are written to: any writer, or nowhere, where no write fails.
-ghost use Rattle.std.specs.Prelude.{◌<◌, ◌≤◌, ◌⊎◌, ℕ, List, Option, length, take, IfOk, IfErr, OnOk, OnErr};
-ghost use Rattle.std.specs.Io.KnownBytes.{Appends, Keeps};
-ghost use Rattle.pn_line.specs.Writing.{WouldBlock};
+//! Where lines are written, and why a write fails.
 
-use crate::writing::WriteFault;
+ghost use Rattle.std.specs.Prelude.{◌≡◌, length, IsOk, OnOk, OnErr, ◌<◌, ◌≤◌, ◌⊎◌, ℕ, List, Option, take, IfOk, IfErr};
+ghost use Rattle.std.specs.Io.KnownBytes.{Appends, Keeps};
+ghost use Rattle.pn_line.specs.Sent.{AppendsPrefix, WouldBlock};
+
+use std::error::Error;
 use std::io::Write;
+use std::{fmt, io};
+
+/// Why not all bytes were written.
+#[derive(Debug, Drop)]
+pub enum WriteFault {
+    /// The writer gave this error.
+    Failed(io::Error),
+    /// The writer accepted no byte although some were left.
+    TookNothing,
+}
+
+impl fmt::Display for WriteFault {
+    fn fmt<W: fmt::Write>(&self, f: &mut fmt::Formatter<W>) -> fmt::Result {
+        match self {
+            WriteFault::Failed(error) => write!(f, "the writer failed: {error}"),
+            WriteFault::TookNothing => write!(f, "the writer takes no more bytes"),
+        }
+    }
+}
+
+impl Error for WriteFault {}
+
+/// Writes all the bytes, and does not flush the writer.
+///
+/// Any error of the writer ends it, `Interrupted` too: retries without limit might never end.
+pub fn write_all_of<W: Sink>(writer: &mut W, bytes: &[u8]) -> Result<(), WriteFault>
+    ensures ok { OnOk result (Appends (W.contents writer.old) (W.contents writer.new) bytes.now) }
+    ensures err { OnErr result
+        (AppendsPrefix (W.contents writer.old) (W.contents writer.new) bytes.now) }
+    ensures fault { OnErr result W.may_fail }
+    ensures nothing { length bytes.now ≡ 0 → IsOk result }
+{
+    let mut rest = bytes;
+    while !rest.is_empty() {
+        let count = writer.write_some(rest)?;
+        rest = &rest[count..];
+    }
+    Ok(())
+}
 
 /// What bytes are written to.
 pub trait Sink {
@@ -14,8 +54,8 @@ pub trait Sink {
     // False for a type whose writes never fail.
     ghost may_fail: { Type 0 };
 
-    // What was written so far was handed on, where the type shows it.
-    ghost is_handed_on: { Self → Type 0 };
+    // What was written so far was flushed, where the type shows it.
+    ghost is_flushed: { Self → Type 0 };
 
     // A call of it has failed, where the type shows it. A write that would block has not failed.
     ghost has_failed: { Self → Type 0 };
@@ -32,9 +72,9 @@ pub trait Sink {
         ensures kept { OnErr result (Keeps (contents self.old) (contents self.new)) }
         ensures failed { IfErr result (λ fault. WouldBlock fault ⊎ has_failed self.new) };
 
-    /// Flushes the writer: what was written so far is handed on.
-    fn hand_on(&mut self) -> Result<(), WriteFault>
-        ensures all { OnOk result (is_handed_on self.new) }
+    /// Flushes the writer.
+    fn flush(&mut self) -> Result<(), WriteFault>
+        ensures all { OnOk result (is_flushed self.new) }
         ensures fault { OnErr result may_fail }
         ensures kept { Keeps (contents self.old) (contents self.new) }
         ensures failed { OnErr result (has_failed self.new) };
@@ -45,7 +85,7 @@ impl<W: Write> Sink for W {
 
     ghost may_fail = { Unit {0} };
 
-    ghost is_handed_on = { λ _. Unit {0} };
+    ghost is_flushed = { λ _. Unit {0} };
 
     ghost has_failed = { λ _. Unit {0} };
 
@@ -57,8 +97,8 @@ impl<W: Write> Sink for W {
         }
     }
 
-    fn hand_on(&mut self) -> Result<(), WriteFault> {
-        self.flush().map_err(WriteFault::Failed)
+    fn flush(&mut self) -> Result<(), WriteFault> {
+        Write::flush(self).map_err(WriteFault::Failed)
     }
 }
 
@@ -73,7 +113,7 @@ impl Sink for Discard {
 
     ghost may_fail = { ⊥ };
 
-    ghost is_handed_on = { λ _. Unit {0} };
+    ghost is_flushed = { λ _. Unit {0} };
 
     ghost has_failed = { λ _. ⊥ };
 
@@ -81,7 +121,7 @@ impl Sink for Discard {
         Ok(bytes.len())
     }
 
-    fn hand_on(&mut self) -> Result<(), WriteFault> {
+    fn flush(&mut self) -> Result<(), WriteFault> {
         Ok(())
     }
 }

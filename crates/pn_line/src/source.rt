@@ -1,10 +1,9 @@
 //! Where lines are read from: any buffered reader, or bytes in memory, whose reads never fail.
-ghost use Rattle.std.specs.Prelude.{◌≡◌, ◌≢◌, ◌+◌, ◌<◌, ◌≤◌, ℕ, List, [], true, false, IfOk, OnErr, IfSome, OnSome, Option};
-ghost use Rattle.std.specs.Io.KnownBytes.{Keeps, IsAtEnd};
-ghost use Rattle.pn_line.specs.Reads.{Takes, newline_after, HasMore};
+ghost use Rattle.std.specs.Prelude.{◌≡◌, ◌≢◌, ◌+◌, ◌<◌, ◌≤◌, ℕ, List, [], true, false, IfOk, OnErr, IfSome, Option};
+ghost use Rattle.std.specs.Io.KnownBytes.{Keeps};
+ghost use Rattle.pn_line.specs.Line.{TakesPiece};
 
-use crate::line_buffer::{ENDLESS, LineBuffer};
-use crate::piece::{Piece, take_piece};
+use crate::line_buffer::{ENDLESS, LineBuffer, Piece, take_piece};
 use std::io;
 use std::io::BufRead;
 
@@ -19,8 +18,8 @@ pub trait Source {
     // False for a type that is never at its end.
     ghost may_end: { Type 0 };
 
-    // How many looks at its bytes were made, where the type counts them.
-    ghost looks: { Self → ℕ };
+    // How many polls of its bytes were made, where the type counts them.
+    ghost polls: { Self → ℕ };
 
     /// Looks at some of the bytes that are left, waiting for them if need be, and moves those of the line
     /// into it.
@@ -28,14 +27,9 @@ pub trait Source {
     /// An error of the reader takes nothing, so that the call can be repeated.
     fn take_some(&mut self, line: &mut LineBuffer) -> io::Result<Piece>
         requires { line.old.count < ENDLESS }
-        ensures takes { IfOk result
-            (λ piece. Takes line.old line.new (left self.old) (left self.new) (newline_after piece)) }
-        ensures part { result ≡ Ok Piece.Part → line.old.count < line.new.count }
-        ensures below { result ≢ Ok Piece.Part → line.new.count < ENDLESS }
-        ensures end { result ≡ Ok Piece.NoMore → OnSome (left self.old) (IsAtEnd (left self.new)) }
+        ensures takes { IfOk result (λ piece. TakesPiece piece line.old line.new (left self.old) (left self.new)) }
         ensures end_comes { result ≡ Ok Piece.NoMore → may_end }
-        ensures more { IfOk result (λ piece. OnSome (left self.old) (HasMore piece (left self.new))) }
-        ensures looks { looks self.new ≤ looks self.old + 1 }
+        ensures polls { polls self.new ≤ polls self.old + 1 }
         ensures fault { OnErr result may_fail }
         ensures kept { OnErr result (Keeps (left self.old) (left self.new)) }
         ensures line_kept { OnErr result (line.new ≡ line.old) };
@@ -45,7 +39,7 @@ pub trait Source {
         ensures more { result ≡ Ok true → IfSome (left self.old) (λ rest. rest ≢ []) }
         ensures end { result ≡ Ok false → IfSome (left self.old) (λ rest. rest ≡ []) }
         ensures end_comes { result ≡ Ok false → may_end }
-        ensures looks { looks self.new ≤ looks self.old + 1 }
+        ensures polls { polls self.new ≤ polls self.old + 1 }
         ensures fault { OnErr result may_fail }
         ensures kept { Keeps (left self.old) (left self.new) };
 }
@@ -57,7 +51,7 @@ impl<R: BufRead> Source for R {
 
     ghost may_end = { Unit {0} };
 
-    ghost looks = { λ _. 0 };
+    ghost polls = { λ _. 0 };
 
     fn take_some(&mut self, line: &mut LineBuffer) -> io::Result<Piece> {
         let shown = self.fill_buf()?;

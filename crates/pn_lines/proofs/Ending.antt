@@ -3,24 +3,19 @@ use Rattle.std.proofs.Common.{◌≡◌, ◌≢◌, ◌⊎◌, ◌+◌, ◌<◌,
 use Rattle.std.specs.Prelude.{Ok, Err}
 use Rattle.std.specs.Io.KnownBytes.{Appends}
 use Rattle.std.proofs.lemmas.List.Elements.{All-head, All-tail, All-nil, All-cons}
-use Rattle.pn_line.specs.Line.{LineBufferValue, so_far}
-use Rattle.pn_line.specs.LinesRead.{PartRead}
-use Rattle.pn_line.specs.Reads.{IsUnbroken, Takes}
-use Rattle.pn_line.specs.Text.{text_of}
+use Rattle.pn_line.specs.Line.{LineBufferValue, so_far, IsUnbroken, Takes}
+use Rattle.pn_line.specs.Text.{PartRead, text_of}
 use Rattle.pn_line.specs.declared.line_buffer.TheConstants.{ENDLESS, MAX_LINE_BYTES}
-use Rattle.pn_line.proofs.KnownLaws.{ReadsPart-from_takes}
-use Rattle.pn_lines.specs.Driving.{IsReading, Reads}
-use Rattle.pn_lines.specs.Ends.{Answered, Cut, Ended, HasEnded, IsEndless, IsFull, Start, Stopped}
+use Rattle.pn_line.proofs.TextLaws.{ReadsPart-from_takes}
+use Rattle.pn_lines.specs.Driving.{IsReading, Reads, Answered, Cut, Ended, HasEnded, IsEndless, IsFull, Start, Stopped}
 use Rattle.pn_lines.specs.Engines.{EngineValue, stage_after}
-use Rattle.pn_lines.specs.Moves.{IsPreorder}
-use Rattle.pn_lines.specs.Replies.{Replied, refusals_of, texts_of}
-use Rattle.pn_lines.specs.Handling.{Handling}
+use Rattle.pn_lines.specs.Handling.{IsPreorder, Replied, refusals_of, texts_of, Handling}
 use Rattle.pn_lines.specs.Standing.{IsLine, StageAt}
 use Rattle.pn_lines.specs.declared.driver.LinesFault.{LinesFault}
 use Rattle.pn_lines.specs.declared.driver.LinesFault.TheVariants.{Closed, EndlessLine, Read, TooManyLines, Write}
-use Rattle.pn_lines.specs.declared.engine.stage.LinesEnd.TheVariants as end
-use Rattle.pn_lines.specs.declared.engine.stage.Stage.{Stage}
-use Rattle.pn_lines.specs.declared.engine.stage.Stage.TheVariants.{Reading, Going, Ended as HasStopped}
+use Rattle.pn_lines.specs.declared.engine.state.LinesEnd.TheVariants as end
+use Rattle.pn_lines.specs.declared.engine.state.Stage.{Stage}
+use Rattle.pn_lines.specs.declared.engine.state.Stage.TheVariants.{Reading, Pending, Ended as HasStopped}
 use Rattle.pn_lines.specs.declared.handler.EndedBy.{EndedBy}
 use Rattle.pn_lines.specs.declared.handler.EndedBy.TheVariants.{Newline, Input}
 use Rattle.pn_lines.proofs.Standing.{no_length}
@@ -28,12 +23,12 @@ use Rattle.pn_lines.proofs.Standing.{no_length}
 -- an answer is gone on with
 abbrev IsGoing : {G : Type 0} → Stage G → Type 0
 IsGoing (Reading dropped) = ⊥
-IsGoing (Going g of) = Unit {0}
+IsGoing (Pending g of) = Unit {0}
 IsGoing (HasStopped end) = ⊥
 
 settled_after : (G : Type 0) (ended : EndedBy) → IsGoing {G = G} (stage_after ended) → ⊥
-settled_after G Newline going = going
-settled_after G Input going = going
+settled_after G Newline pending = pending
+settled_after G Input pending = pending
 
 unbroken_lines : (lines : List (List ℕ)) → All IsLine lines → All IsUnbroken lines
 unbroken_lines [] are = All-nil IsUnbroken
@@ -79,7 +74,7 @@ module _ {V G : Type 0} (handling : Handling V G) (start : Start V) where
         → StageAt handling stage run.counts.lines run.most run.left (record { lines = is.stands.lines; rest = is.stands.rest; ahead = []; last = last; reached = is.stands.reached; now = machine }) is.stands.more → (IsGoing stage → run.left ≢ [])
         → (reached : V) × handling.moves reached machine × Cut handling start input left written reached
     cut_at input is (Reading dropped) steady at some = cut_between input is at.0.moved at.0.unbroken at.1
-    cut_at input is (Going g ended) steady at some = absurd (some tt at.2)
+    cut_at input is (Pending g ended) steady at some = absurd (some tt at.2)
     cut_at input is (HasStopped end.Input) steady at some =
         let asked = at.1 in
         let part : is.stands.rest ≡ asked.line = asked.rest_is ∙ append-nil asked.line in (
@@ -108,11 +103,11 @@ module _ {V G : Type 0} (handling : Handling V G) (start : Start V) where
         record { reached = ends.0; moved = ends.1; ends_by = subst (λ (l : Option (List ℕ)). IfSome l (λ (bytes : List ℕ). Cut handling start bytes left written ends.0)) (sym told) ends.2 }
 
     pub Ends-cut : IsPreorder handling.moves → run.left ≢ [] → Reads handling start left written replies last machine run → HasEnded handling most start left written machine (Err Write)
-    Ends-cut steady some reads = cut_by start.left refl steady (λ going. some) reads
+    Ends-cut steady some reads = cut_by start.left refl steady (λ pending. some) reads
 
     -- the same once an answer is there
     pub Ends-cut_settled : (ended : EndedBy) → IsPreorder handling.moves → run.stage ≡ stage_after ended → Reads handling start left written replies last machine run → HasEnded handling most start left written machine (Err Write)
-    Ends-cut_settled ended steady settled reads = cut_by start.left refl steady (λ going. absurd (settled_after G ended (subst (λ (s : Stage G). IsGoing s) settled going))) reads
+    Ends-cut_settled ended steady settled reads = cut_by start.left refl steady (λ pending. absurd (settled_after G ended (subst (λ (s : Stage G). IsGoing s) settled pending))) reads
 
   -- a part of the next line was read, and where
   record HasPart (input : List ℕ) (left leaves : Option (List ℕ)) (lines : List (List ℕ)) (rest : List ℕ) (line : LineBufferValue) : Type 0 where

@@ -1,21 +1,41 @@
--- How much is left after a step.
-use Rattle.std.proofs.Common.{◌≡◌, ◌⊎◌, ◌+◌, ◌-◌, ◌<◌, ◌≤◌, ℕ, zero, suc, inl, inr, refl, ◌∙◌, subst, arith}
+-- The first newline among bytes, and how much is left after a step.
+use Rattle.std.proofs.Common.{◌≡◌, ◌+◌, ◌<◌, ◌≤◌, ℕ, List, [], ◌∷◌, ◌++◌, take, sym, ap, ◌∙◌, subst, arith, ◌⊎◌, ◌-◌, zero, suc, inl, inr, refl}
+use Rattle.std.proofs.lemmas.List.{length-take, take-take}
+use Rattle.pn_line.specs.Line.{IsUnbroken}
 use Rattle.pn_line.specs.declared.line_buffer.TheConstants.{ENDLESS, MAX_LINE_BYTES}
-use Rattle.pn_lines.specs.Answers.{AnswerValue, done, going}
-use Rattle.pn_lines.specs.Engines.{EngineValue, after_answer, dropping, with_lines}
-use Rattle.pn_lines.specs.Progress.{Advances, IsNearer, bytes_left, lines_left}
+use Rattle.pn_lines.specs.Giving.{NewlineAt}
+use Rattle.pn_lines.specs.Answers.{AnswerValue, done, pending}
+use Rattle.pn_lines.specs.Engines.{EngineValue, after_answer, dropping, with_lines, Advances, IsNearer, bytes_left, lines_left}
 use Rattle.pn_lines.specs.declared.handler.EndedBy.{EndedBy}
 use Rattle.pn_lines.specs.declared.handler.EndedBy.TheVariants.{Newline, Input}
+
+-- The first newline among the first bytes.
+
+-- it is the first of all
+pub NewlineAt-window : (bytes : List ℕ) (window at : ℕ) → NewlineAt (take window bytes) at → NewlineAt bytes at × (at < window)
+NewlineAt-window bytes window at found =
+    let long = length-take window bytes in
+    let below : at + 1 ≤ window = omega (arith, long, found.below) in
+    let first : take at (take window bytes) ≡ take at bytes = take-take at window bytes (omega (arith, below)) in (
+      record {
+        below = omega (arith, long, found.below);
+        before = subst IsUnbroken first found.before;
+        newline = sym (take-take (at + 1) window bytes below) ∙ found.newline ∙ ap (λ (l : List ℕ). l ++ 10 ∷ []) first;
+      },
+      omega (arith, below),
+    )
+
+-- How much is left after a step.
 
 module _ {G : Type 0} where
   -- after a whole line as many bytes are left as before it, without it
   left_line : (answer : AnswerValue G) (run : EngineValue G) → bytes_left (after_answer answer Newline run) ≡ lines_left run.counts.lines run.most
   left_line (done replied) run = refl
-  left_line (going g) run = refl
+  left_line (pending g) run = refl
 
   left_last : (answer : AnswerValue G) (run : EngineValue G) → bytes_left (after_answer answer Input run) ≤ 1
   left_last (done replied) run = omega arith
-  left_last (going g) run = omega arith
+  left_last (pending g) run = omega arith
 
   -- while a line is dropped
   left_dropped : (dropped : ℕ) (run : EngineValue G) → 0 < dropped → bytes_left (dropping dropped run) ≡ lines_left run.counts.lines run.most + (ENDLESS - dropped)

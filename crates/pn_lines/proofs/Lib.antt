@@ -1,14 +1,11 @@
-pub mod Driving
 pub mod Ending
 pub mod Following
 pub mod Left
-pub mod Pieces
 pub mod Reading
 pub mod Standing
-pub mod Stepping
 pub mod Steps
 pub mod Taking
+pub mod TurnEnds
 pub mod Turned
 pub mod Turning
-pub mod Windows
 pub mod Working

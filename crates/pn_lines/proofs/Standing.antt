@@ -3,15 +3,13 @@ use Rattle.std.proofs.Common.{◌≡◌, ◌≢◌, ◌+◌, ◌-◌, ◌≤◌,
 use Rattle.std.proofs.lemmas.List.Elements.{All-nil, All-cons, All-append}
 use Rattle.pn_line.specs.Text.{text_of}
 use Rattle.pn_line.proofs.TextLaws.{text_of-push}
-use Rattle.pn_lines.specs.Answers.{AnswerValue, AnswersBy, done, going}
+use Rattle.pn_lines.specs.Answers.{AnswerValue, AnswersBy, done, pending}
 use Rattle.pn_lines.specs.Engines.{EngineValue, after_answer, with_refusal}
-use Rattle.pn_lines.specs.Moves.{IsPreorder}
-use Rattle.pn_lines.specs.Replies.{Replied, one_if, refusals_of, texts_of}
-use Rattle.pn_lines.specs.Handling.{Answers, GivesUp, Handling}
+use Rattle.pn_lines.specs.Handling.{IsPreorder, Replied, one_if, refusals_of, texts_of, Answers, GivesUp, Handling}
 use Rattle.pn_lines.specs.Standing.{AllAnswer, IsAsked, IsLine, Position, StageAt, Stands, StandsBy}
-use Rattle.pn_lines.specs.declared.engine.stage.LinesEnd.TheVariants as end
-use Rattle.pn_lines.specs.declared.engine.stage.Stage.{Stage}
-use Rattle.pn_lines.specs.declared.engine.stage.Stage.TheVariants.{Reading, Going, Ended}
+use Rattle.pn_lines.specs.declared.engine.state.LinesEnd.TheVariants as end
+use Rattle.pn_lines.specs.declared.engine.state.Stage.{Stage}
+use Rattle.pn_lines.specs.declared.engine.state.Stage.TheVariants.{Reading, Pending, Ended}
 use Rattle.pn_lines.specs.declared.handler.EndedBy.{EndedBy}
 use Rattle.pn_lines.specs.declared.handler.EndedBy.TheVariants.{Newline, Input}
 
@@ -42,7 +40,7 @@ module _ {V G : Type 0} (handling : Handling V G) where
 
   given_at : (stage : Stage G) (count most : ℕ) (left more : List ℕ) (at : Position V) (replies : List Replied) → length more ≤ length left → StageAt handling stage count most left at replies → StageAt handling stage count most more at replies
   given_at (Reading dropped) count most left more at replies less is = is
-  given_at (Going g ended) count most left more at replies less is = (is.0, is.1, no_length more (omega (arith, less, ap length is.2)))
+  given_at (Pending g ended) count most left more at replies less is = (is.0, is.1, no_length more (omega (arith, less, ap length is.2)))
   given_at (Ended end.Input) count most left more at replies less is = is
   given_at (Ended end.Closed) count most left more at replies less is = is
   given_at (Ended end.TooManyLines) count most left more at replies less is = is
@@ -84,7 +82,7 @@ module _ {V G : Type 0} (handling : Handling V G) where
     -- its answer was taken
     pub Stands-answered : (ended : EndedBy) (answer : AnswerValue G) → run.left ≡ [] → StandsAsked ended answer start taken given ahead last machine run
         → Stands handling start taken given ahead last machine (after_answer answer ended run)
-    Stands-answered ended (going g) made is = record {
+    Stands-answered ended (pending g) made is = record {
       lines = is.lines;
       rest = is.rest;
       taken_is = is.taken_is;
@@ -143,10 +141,10 @@ module _ {V G : Type 0} (handling : Handling V G) where
         }
 
     -- what is gone on with has an answer
-    pub Asked-going : IsPreorder handling.moves → (now : V) (g : G) (ended : EndedBy) (answer : AnswerValue G)
+    pub Asked-pending : IsPreorder handling.moves → (now : V) (g : G) (ended : EndedBy) (answer : AnswerValue G)
         → ((was between : V) (line : List ℕ) → handling.goes was ended line between g → handling.moves between machine → AnswersBy handling was ended line now answer)
-        → Stands handling start taken given ahead last machine (record run { stage = Going g ended }) → StandsAsked ended answer start taken given ahead last now run
-    Asked-going steady now g ended answer goes is =
+        → Stands handling start taken given ahead last machine (record run { stage = Pending g ended }) → StandsAsked ended answer start taken given ahead last now run
+    Asked-pending steady now g ended answer goes is =
         let asked = is.stage.0 in
         record {
           lines = is.lines;
@@ -178,7 +176,7 @@ module _ {V G : Type 0} (handling : Handling V G) where
         }
 
     -- an answer that is given up has a reply
-    pub Stands-given_up : IsPreorder handling.moves → GivesUp handling → (g : G) (ended : EndedBy) → Stands handling start taken given ahead last machine (record run { stage = Going g ended })
+    pub Stands-given_up : IsPreorder handling.moves → GivesUp handling → (g : G) (ended : EndedBy) → Stands handling start taken given ahead last machine (record run { stage = Pending g ended })
         → (replied : Replied) × Stands handling start taken given ahead last machine (after_answer (done replied) ended run)
     Stands-given_up steady gives_up g ended is =
         let asked = is.stage.0 in
@@ -221,7 +219,7 @@ module _ {V G : Type 0} (handling : Handling V G) where
         → StageAt handling stage run.counts.lines run.most run.left (record { lines = lines; rest = rest; ahead = ahead; last = last; reached = reached; now = now }) more
     moved_at steady now moves (Reading dropped) lines rest reached more is =
         (record { moved = steady.goes_on reached machine now is.0.moved moves; unbroken = is.0.unbroken; dropped_is = is.0.dropped_is; counted = is.0.counted }, is.1)
-    moved_at steady now moves (Going g ended) lines rest reached more is =
+    moved_at steady now moves (Pending g ended) lines rest reached more is =
         (record { line = is.0.line; first = is.0.first; between = is.0.between; rest_is = is.0.rest_is; is_line = is.0.is_line; moved = is.0.moved; answered = is.0.answered; goes_on = steady.goes_on is.0.between machine now is.0.goes_on moves; counted = is.0.counted; over = is.0.over }, is.1, is.2)
     moved_at steady now moves (Ended end.Input) lines rest reached more is =
         (is.0, record { line = is.1.line; first = is.1.first; between = is.1.between; rest_is = is.1.rest_is; is_line = is.1.is_line; moved = is.1.moved; answered = is.1.answered; goes_on = steady.goes_on is.1.between machine now is.1.goes_on moves; counted = is.1.counted; over = is.1.over }, is.2)

@@ -2,15 +2,14 @@
 use Rattle.std.proofs.Common.{◌≡◌, ◌≢◌, ◌+◌, ◌<◌, ◌≤◌, ℕ, Bool, List, [], ◌∷◌, ◌++◌, length, max, inl, inr, refl, sym, ap, ◌∙◌, arith, append_assoc, append-nil, length-append, ⊎_elim}
 use Rattle.std.proofs.lemmas.List.Elements.{All-append}
 use Rattle.pn_line.specs.declared.line_buffer.TheConstants.{ENDLESS, MAX_KEPT_BYTES, MAX_LINE_BYTES}
-use Rattle.pn_line.specs.Reads.{IsUnbroken}
+use Rattle.pn_line.specs.Line.{IsUnbroken}
 use Rattle.pn_line.specs.Text.{text_of}
 use Rattle.pn_lines.specs.Answers.{AnswerValue, AnswersBy}
 use Rattle.pn_lines.specs.Engines.{EngineValue, dropping, with_lines}
-use Rattle.pn_lines.specs.Moves.{IsPreorder}
-use Rattle.pn_lines.specs.Handling.{Handling}
+use Rattle.pn_lines.specs.Handling.{IsPreorder, Handling}
 use Rattle.pn_lines.specs.Standing.{IsLine, IsOver, Stands, count_of, newline_of}
-use Rattle.pn_lines.specs.declared.engine.stage.LinesEnd.TheVariants as end
-use Rattle.pn_lines.specs.declared.engine.stage.Stage.TheVariants.{Ended}
+use Rattle.pn_lines.specs.declared.engine.state.LinesEnd.TheVariants as end
+use Rattle.pn_lines.specs.declared.engine.state.Stage.TheVariants.{Ended}
 use Rattle.pn_lines.specs.declared.handler.EndedBy.{EndedBy}
 use Rattle.pn_lines.specs.declared.handler.EndedBy.TheVariants.{Newline, Input}
 use Rattle.pn_lines.proofs.Standing.{StandsAsked, no_length}

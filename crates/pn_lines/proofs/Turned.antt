@@ -3,8 +3,7 @@ use Rattle.std.proofs.Common.{◌≡◌, ◌≢◌, ◌⊎◌, ◌+◌, ◌*◌,
 use Rattle.pn_lines.specs.Engines.{EngineValue}
 use Rattle.pn_lines.specs.Handling.{Handling}
 use Rattle.pn_lines.specs.Standing.{StandsStill}
-use Rattle.pn_lines.specs.TurnStates.{BufferValue, IsKept, IsStored, Rests, TakesFirst, TurnValue, held_in, outcome_of}
-use Rattle.pn_lines.specs.Turns.{Moment, Turned, WorkedIn, at}
+use Rattle.pn_lines.specs.Turns.{BufferValue, IsKept, IsStored, Rests, TakesFirst, TurnValue, held_in, outcome_of, Moment, Turned, WorkedIn, at}
 use Rattle.pn_lines.specs.declared.engine.TheConstants.{MAX_STEP_UNITS}
 use Rattle.pn_lines.specs.declared.turns.Pause.TheVariants as pause
 use Rattle.pn_lines.specs.declared.turns.SourceState.{SourceState}
@@ -16,7 +15,7 @@ use Rattle.pn_lines.specs.declared.turns.sending.Sent.TheVariants as sent
 use Rattle.pn_lines.specs.declared.turns.working.TheConstants.{TURN_UNITS}
 use Rattle.pn_lines.specs.declared.turns.working.Work.{Work}
 use Rattle.pn_lines.specs.declared.turns.working.Work.TheVariants as work
-use Rattle.pn_lines.proofs.Working.{Turned-after, Turned-looked, Turned-stopped, Turned-worked}
+use Rattle.pn_lines.proofs.TurnEnds.{Turned-after, Turned-looked, Turned-stopped, Turned-worked}
 
 module _ {G : Type 0} where
   -- the source is as the turn left it
@@ -73,10 +72,10 @@ module _ {V G : Type 0} (handling : Handling V G) (left : G → ℕ) where
       subst (λ (k : TurnValue G). Turned handling left (at known before machine k) new result) same (Turned-after handling left (at known before machine shown) new between waits result takes all is)
 
   -- the same where the sink leaves some of it, and an answer was gone on with
-  pub Turned-going : (known before after : Option (List ℕ)) (machine now : V) (shown old : TurnValue G) (engine : EngineValue G) (waits : List ℕ) → shown ≡ old → TakesFirst before after shown.replies waits → waits ≢ []
+  pub Turned-pending : (known before after : Option (List ℕ)) (machine now : V) (shown old : TurnValue G) (engine : EngineValue G) (waits : List ℕ) → shown ≡ old → TakesFirst before after shown.replies waits → waits ≢ []
       → StandsStill handling machine shown.engine now engine → engine.counts.lines ≡ shown.engine.counts.lines
       → Turned handling left (at known before machine old) (at known after now (record shown { engine = engine; replies = waits })) (outcome.Goes pause.Output)
-  Turned-going known before after machine now shown old engine waits same takes some still lines =
+  Turned-pending known before after machine now shown old engine waits same takes some still lines =
       subst (λ (k : TurnValue G). Turned handling left (at known before machine k) (at known after now (record shown { engine = engine; replies = waits })) (outcome.Goes pause.Output)) same
       (Turned-looked handling left (at known before machine shown) after waits now engine (outcome.Goes pause.Output) takes still lines some waits_not)
 

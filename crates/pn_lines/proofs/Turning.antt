@@ -2,15 +2,12 @@
 use Rattle.std.proofs.Common.{◌≡◌, ◌⊎◌, ◌≤◌, ℕ, Bool, Option, None, Some, OnSome, List, [], ◌++◌, length, take, drop, inl, inr, refl, sym, ap, ◌∙◌, subst, append_assoc, append-nil, take-append-drop, ⊎_elim}
 use Rattle.std.specs.Io.KnownBytes.{Appends, Consumes, IsAtEnd}
 use Rattle.std.proofs.KnownBytes.{Appends-nil, Appends-trans, Consumes-nil, Consumes-trans}
-use Rattle.pn_lines.specs.Engines.{EngineValue}
-use Rattle.pn_lines.specs.Progress.{IsPartAt}
-use Rattle.pn_lines.specs.Replies.{Replied}
-use Rattle.pn_lines.specs.Handling.{Handling}
+use Rattle.pn_lines.specs.Engines.{EngineValue, IsPartAt}
+use Rattle.pn_lines.specs.Handling.{Replied, Handling}
 use Rattle.pn_lines.specs.Standing.{StageAt, Stands}
-use Rattle.pn_lines.specs.TurnStates.{TurnValue, is_last}
-use Rattle.pn_lines.specs.Turns.{Moment, Moved, Moves, at}
-use Rattle.pn_lines.specs.declared.engine.stage.Stage.{Stage}
-use Rattle.pn_lines.specs.declared.engine.stage.Stage.TheVariants.{Reading, Going, Ended}
+use Rattle.pn_lines.specs.Turns.{TurnValue, is_last, Moment, Moved, Moves, at}
+use Rattle.pn_lines.specs.declared.engine.state.Stage.{Stage}
+use Rattle.pn_lines.specs.declared.engine.state.Stage.TheVariants.{Reading, Pending, Ended}
 use Rattle.pn_lines.specs.declared.turns.SourceState.{SourceState}
 use Rattle.pn_lines.specs.declared.turns.SourceState.TheVariants.{AtEnd}
 
@@ -59,7 +56,7 @@ module _ {V G : Type 0} (handling : Handling V G) where
       → StageAt handling stage count most left (record { lines = lines; rest = rest; ahead = also; last = close; reached = reached; now = now }) more
   reading_at (Reading dropped) count most left part lines rest ahead also last close reached now more wants is =
       (record { moved = is.0.moved; unbroken = is.0.unbroken; dropped_is = is.0.dropped_is; counted = is.0.counted }, is.1)
-  reading_at (Going g ended) count most left part lines rest ahead also last close reached now more wants is = absurd wants
+  reading_at (Pending g ended) count most left part lines rest ahead also last close reached now more wants is = absurd wants
   reading_at (Ended end) count most left part lines rest ahead also last close reached now more wants is = absurd wants
 
   stands_reading : (start : V) (taken given part ahead also : List ℕ) (last close : Bool) (machine : V) (run : EngineValue G) → IsPartAt run.stage part → Stands handling start taken given ahead last machine run

@@ -1,14 +1,7 @@
 pub mod Answers
 pub mod Driving
-pub mod Ends
 pub mod Engines
-pub mod Finding
 pub mod Giving
 pub mod Handling
-pub mod Moves
-pub mod Progress
-pub mod Replies
 pub mod Standing
-pub mod Taking
-pub mod TurnStates
 pub mod Turns

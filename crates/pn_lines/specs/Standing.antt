@@ -1,17 +1,19 @@
--- Where an engine stands: what it took of an input and gave of replies since it began.
-use Rattle.std.specs.Prelude.{◌≡◌, ◌≢◌, ◌⊎◌, ◌<◌, ◌≤◌, ℕ, zero, suc, ◌+◌, ◌-◌, ◌^◌, min, Bool, true, List, [], ◌∷◌, ◌++◌, length, take, drop, All}
-use Rattle.pn_line.specs.Reads.{IsUnbroken}
+-- Where an engine stands: what it took of an input and gave of replies since it began, and what a step does to it.
+use Rattle.std.specs.Prelude.{◌≡◌, ◌≢◌, ◌⊎◌, ◌<◌, ◌≤◌, ℕ, zero, suc, ◌+◌, ◌-◌, ◌^◌, min, Bool, true, List, [], ◌∷◌, ◌++◌, length, take, drop, All, ◌*◌}
+use Rattle.pn_line.specs.Line.{IsUnbroken}
 use Rattle.pn_line.specs.Text.{text_of}
 use Rattle.pn_line.specs.declared.line_buffer.TheConstants.{ENDLESS, MAX_LINE_BYTES}
-use Rattle.pn_lines.specs.Answers.{AnswerValue, AnswersBy, done, going}
-use Rattle.pn_lines.specs.Engines.{EngineValue}
-use Rattle.pn_lines.specs.Handling.{Answers, Handling}
-use Rattle.pn_lines.specs.Replies.{Replied, refusals_of, texts_of}
-use Rattle.pn_lines.specs.declared.engine.stage.LinesEnd.TheVariants as end
-use Rattle.pn_lines.specs.declared.engine.stage.Stage.{Stage}
-use Rattle.pn_lines.specs.declared.engine.stage.Stage.TheVariants.{Reading, Going, Ended}
+use Rattle.pn_lines.specs.Answers.{AnswerValue, AnswersBy, done, pending}
+use Rattle.pn_lines.specs.Engines.{EngineValue, after_answer, Advances}
+use Rattle.pn_lines.specs.Handling.{Answers, Handling, Replied, refusals_of, texts_of}
+use Rattle.pn_lines.specs.declared.engine.state.Stage.{Stage}
+use Rattle.pn_lines.specs.declared.engine.state.Stage.TheVariants.{Reading, Pending, Ended}
 use Rattle.pn_lines.specs.declared.handler.EndedBy.{EndedBy}
 use Rattle.pn_lines.specs.declared.handler.EndedBy.TheVariants.{Newline, Input}
+use Rattle.pn_lines.specs.declared.engine.TheConstants.{MAX_STEP_UNITS, UNIT_BYTES}
+use Rattle.pn_lines.specs.declared.engine.state.LinesEnd.TheVariants as end
+
+-- Where an engine stands: what it took of an input and gave of replies since it began.
 
 -- a line without its newline, which has an end
 pub record IsLine (line : List ℕ) : Type 0 where
@@ -89,7 +91,7 @@ module _ {V G : Type 0} (handling : Handling V G) where
   -- what is so at a stage, by the text that is still to be made, and the replies that came after those to the lines
   abbrev pub StageAt : Stage G → ℕ → ℕ → List ℕ → Position V → List Replied → Type 0
   StageAt (Reading dropped) count most left at more = IsReading dropped count at × (more ≡ [])
-  StageAt (Going g ended) count most left at more = IsAsked ended (going g) count at × (more ≡ []) × (left ≡ [])
+  StageAt (Pending g ended) count most left at more = IsAsked ended (pending g) count at × (more ≡ []) × (left ≡ [])
   StageAt (Ended end.Input) count most left at more = (replied : Replied) × IsAsked Input (done replied) count at × (more ≡ replied ∷ [])
   StageAt (Ended end.Closed) count most left at more = IsStopped (λ stopped. (at.rest ≡ []) × handling.closed stopped) at × (more ≡ [])
   StageAt (Ended end.TooManyLines) count most left at more =
@@ -120,7 +122,32 @@ module _ {V G : Type 0} (handling : Handling V G) where
   StandsStill was old now new = (start : V) (taken given ahead : List ℕ) (last : Bool) → Stands start taken given ahead last was old
       → Stands start taken given ahead last now new
 
-  -- where the engine stood with what waited, it stands with what waits, once so many of the bytes at hand were taken
+  -- where the engine stood with what waited, it stands with what waits, once that number of the bytes at hand were taken
   abbrev pub StandsAfter : List ℕ → Bool → V → EngineValue G → List ℕ → ℕ → V → EngineValue G → List ℕ → Type 0
   StandsAfter bytes last was old waited n now new waits = (start : V) (taken out : List ℕ) → Stands start taken (out ++ waited) bytes last was old
       → Stands start (taken ++ take n bytes) (out ++ waits) (drop n bytes) last now new
+
+-- What a step that takes lines does.
+
+module _ {V G : Type 0} (handling : Handling V G) where
+  -- a line was answered or begun, and the engine has the answer
+  pub record Asks (ended : EndedBy) (line : List ℕ) (was now : V) (old new : EngineValue G) : Type 0 where
+    pub answer : AnswerValue G
+    pub answered : AnswersBy handling was ended line now answer
+    pub has : new ≡ after_answer answer ended old
+
+  -- a line that is too long was answered, whatever its bytes are, and the engine has the reply
+  pub record Refuses (ended : EndedBy) (was now : V) (old new : EngineValue G) : Type 0 where
+    pub replied : Replied
+    pub answered : (line : List ℕ) → MAX_LINE_BYTES < length line → handling.answers was ended line now replied
+    pub has : new ≡ after_answer (done replied) ended old
+
+  -- where the engine stood before it stands after; what was taken was at hand and is counted; less is left; at most one line was taken
+  pub record Takes (left : G → ℕ) (bytes : List ℕ) (last : Bool) (was now : V) (old new : EngineValue G) (taken units : ℕ) : Type 0 where
+    pub stands : (start : V) (before given : List ℕ) → Stands handling start before given bytes last was old
+        → Stands handling start (before ++ take taken bytes) given (drop taken bytes) last now new
+    pub advances : Advances left units taken old new
+    pub within : taken ≤ length bytes
+    pub counted : taken ≤ UNIT_BYTES * units
+    pub few : units ≤ MAX_STEP_UNITS
+    pub lines : new.counts.lines ≤ old.counts.lines + 1

@@ -1,24 +1,29 @@
 //! A driver that waits for its source and its sink: reads lines, has them answered, and writes the replies.
 
 ghost use Rattle.std.specs.Prelude.{◌≡◌, ◌+◌, ◌≤◌, [], IfOk, vec_capacity};
-ghost use Rattle.pn_lines.specs.Ends.{CanEnd, HandsOn, HasEnded, looks_left, start_at};
+ghost use Rattle.pn_lines.specs.Driving.{CanEnd, Flushes, HasEnded, polls_left, start_at};
 ghost use Rattle.pn_lines.specs.Engines.{new_engine};
-ghost use Rattle.pn_lines.specs.declared.piece_text.TheConstants.{MAX_PIECE_BYTES};
+ghost use Rattle.pn_lines.specs.declared.finding.TheConstants.{MAX_PIECE_BYTES};
 
 pub(crate) mod buffers;
 mod reading;
-mod settling;
 
 use crate::driver::buffers::LineBuffers;
 use crate::driver::reading::{answer_next, close};
 use crate::engine::{Counts, LineEngine};
+use crate::finding::PieceText;
 use crate::handler::LineHandler;
-use crate::piece_text::PieceText;
 use pn_line::{LineBuffer, Sink, Source};
 
 /// Answers the lines of an input, at most this number of them, and its end, unless the handler is closed before. Replies are written
 /// before it waits for more input.
-pub fn answer_lines<G: Drop, T: PieceText, M: LineHandler<Going = G, Text = T>, S: Source, W: Sink>(
+pub fn answer_lines<
+    G: Drop,
+    T: PieceText,
+    M: LineHandler<Pending = G, Text = T>,
+    S: Source,
+    W: Sink,
+>(
     machine: &mut M,
     buffers: &mut LineBuffers,
     most: u64,
@@ -30,8 +35,8 @@ pub fn answer_lines<G: Drop, T: PieceText, M: LineHandler<Going = G, Text = T>, 
         (S.left input.new) (W.contents output.new) machine.new result }
     ensures can { CanEnd S.may_fail W.may_fail S.may_end (M.handling.closed machine.new) result }
     ensures few { IfOk result (λ counts. counts.lines ≤ most) }
-    ensures out { HandsOn result (W.is_handed_on output.new) }
-    ensures looks { S.looks input.new ≤ S.looks input.old + looks_left 0 most }
+    ensures out { Flushes result (W.is_flushed output.new) }
+    ensures polls { S.polls input.new ≤ S.polls input.old + polls_left 0 most }
     ensures kept { M.keeps machine.old machine.new }
 {
     buffers.clear();
@@ -47,7 +52,7 @@ pub fn answer_lines<G: Drop, T: PieceText, M: LineHandler<Going = G, Text = T>, 
 }
 
 // Answers lines until it ends.
-fn run<G: Drop, T: PieceText, M: LineHandler<Going = G, Text = T>, S: Source, W: Sink>(
+fn run<G: Drop, T: PieceText, M: LineHandler<Pending = G, Text = T>, S: Source, W: Sink>(
     machine: &mut M,
     engine: &mut LineEngine<G, T>,
     line: &mut LineBuffer,
@@ -63,8 +68,8 @@ fn run<G: Drop, T: PieceText, M: LineHandler<Going = G, Text = T>, S: Source, W:
         (S.left input.new) (W.contents output.new) machine.new result }
     ensures can { CanEnd S.may_fail W.may_fail S.may_end (M.handling.closed machine.new) result }
     ensures few { IfOk result (λ counts. counts.lines ≤ engine.old.most) }
-    ensures out { HandsOn result (W.is_handed_on output.new) }
-    ensures looks { S.looks input.new ≤ S.looks input.old + looks_left 0 engine.old.most }
+    ensures out { Flushes result (W.is_flushed output.new) }
+    ensures polls { S.polls input.new ≤ S.polls input.old + polls_left 0 engine.old.most }
     ensures grows { vec_capacity replies.old ≤ vec_capacity replies.new }
     ensures kept { M.keeps machine.old machine.new }
 {

@@ -4,9 +4,9 @@ ghost use Rattle.std.specs.Prelude.{◌≡◌, ◌<◌, ◌≤◌, ℕ, List, ma
 ghost use Rattle.pn_line.specs.Prelude.{kept_bytes};
 ghost use Rattle.pn_line.specs.declared.line_buffer.TheConstants.{MAX_LINE_BYTES};
 ghost use Rattle.pn_lines.specs.Answers.{AnswersBy, answer_left, answer_of, done, reply_of};
-ghost use Rattle.pn_lines.specs.Moves.{IsPreorder};
+ghost use Rattle.pn_lines.specs.Handling.{IsPreorder};
 
-use crate::piece_text::PieceText;
+use crate::finding::PieceText;
 use std::alloc::Global;
 
 /// The most units of work that an answer at once takes.
@@ -30,17 +30,17 @@ pub struct LineReply<T> {
 
 /// What a handler has of the answer to a line.
 #[derive(Drop)]
-pub enum Answer<G, T> {
+pub enum LineOutcome<G, T> {
     /// The reply.
     Done(LineReply<T>),
     /// What is to be gone on with.
-    Going(G),
+    Pending(G),
 }
 
 /// An answer, and how many units of work it took.
 #[derive(Drop)]
 pub struct Answered<G, T> {
-    pub answer: Answer<G, T>,
+    pub answer: LineOutcome<G, T>,
     pub units: u32,
 }
 
@@ -49,7 +49,7 @@ pub trait LineHandler {
     ghost use Rattle.pn_lines.specs.Handling.{GivesUp, Handling};
 
     /// What it goes on with.
-    type Going: Drop;
+    type Pending: Drop;
 
     /// The text of a reply.
     type Text: PieceText;
@@ -58,10 +58,10 @@ pub trait LineHandler {
     ghost ready: { Type 0 };
 
     // How it answers and begins lines, what may become of it in between, and when it answers no further line.
-    ghost handling: { Handling Self Self.Going };
+    ghost handling: { Handling Self Self.Pending };
 
     // How much is left of what is gone on with.
-    ghost left: { Self.Going → ℕ };
+    ghost left: { Self.Pending → ℕ };
 
     // What is never lost of it.
     ghost keeps: { Self → Self → Type 0 };
@@ -79,7 +79,7 @@ pub trait LineHandler {
         alloc: Global,
         line: &[u8],
         ended: EndedBy,
-    ) -> Answered<Self::Going, Self::Text>
+    ) -> Answered<Self::Pending, Self::Text>
         requires ready { ready }
         ensures answers { (text : List ℕ) → line.now ≡ kept_bytes text
             → AnswersBy handling self.old ended text self.new (answer_of Self.Text.unmade result.answer) }
@@ -90,13 +90,13 @@ pub trait LineHandler {
     fn go_on(
         &mut self,
         alloc: Global,
-        going: Self::Going,
+        pending: Self::Pending,
         units: u32,
-    ) -> Answered<Self::Going, Self::Text>
+    ) -> Answered<Self::Pending, Self::Text>
         requires ready { ready }
-        ensures answers { (was between : Self) (ended : EndedBy) (line : List ℕ) → handling.goes was ended line between going
+        ensures answers { (was between : Self) (ended : EndedBy) (line : List ℕ) → handling.goes was ended line between pending
             → handling.moves between self.old → AnswersBy handling was ended line self.new (answer_of Self.Text.unmade result.answer) }
-        ensures nearer { 0 < units → answer_left left (answer_of Self.Text.unmade result.answer) ≤ left going }
+        ensures nearer { 0 < units → answer_left left (answer_of Self.Text.unmade result.answer) ≤ left pending }
         ensures few { result.units ≤ max units MAX_ANSWER_UNITS }
         ensures kept { keeps self.old self.new };
 

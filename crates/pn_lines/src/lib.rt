@@ -7,17 +7,16 @@ mod driver;
 mod engine;
 mod finding;
 mod handler;
-mod piece_text;
 mod turns;
 
 pub use driver::buffers::LineBuffers;
 pub use driver::{LinesFault, answer_lines};
-pub use engine::stage::LinesEnd;
+pub use engine::state::LinesEnd;
 pub use engine::{Counts, LineEngine, MAX_CALL_UNITS, MAX_STEP_UNITS, Next, Progress};
+pub use finding::{MAX_PIECE_BYTES, PieceText};
 pub use handler::{
-    Answer, Answered, EndedBy, LineHandler, LineReply, MAX_ANSWER_UNITS, RefusesLong,
+    Answered, EndedBy, LineHandler, LineOutcome, LineReply, MAX_ANSWER_UNITS, RefusesLong,
 };
-pub use piece_text::{MAX_PIECE_BYTES, PieceText};
 pub use turns::{
     Input, LineTurns, MAX_UNREAD, Others, Pause, READ_SIZE, SourceState, TURN_UNITS, TurnBuffers,
     TurnFault, TurnOutcome, answer_in_turns, is_wait,

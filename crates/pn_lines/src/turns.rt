@@ -1,21 +1,19 @@
 //! The driver that takes turns: it reads what is at hand, has lines answered, writes what is taken, and never waits.
 
 ghost use Rattle.std.specs.Prelude.{◌≡◌, ◌⊎◌, [], IfNone, IfSome};
-ghost use Rattle.pn_lines.specs.Engines.{is_going as goes_on};
-ghost use Rattle.pn_lines.specs.TurnStates.{new_turns, outcome_of as comes_to};
-ghost use Rattle.pn_lines.specs.Turns.{Turned, at};
+ghost use Rattle.pn_lines.specs.Engines.{is_pending as goes_on};
+ghost use Rattle.pn_lines.specs.Turns.{new_turns, outcome_of as comes_to, Turned, at};
 
 mod buffers;
 mod input;
-mod keeping;
 mod laws;
 mod sending;
 mod working;
 
-use crate::engine::stage::LinesEnd;
+use crate::engine::state::LinesEnd;
 use crate::engine::{Counts, LineEngine};
+use crate::finding::PieceText;
 use crate::handler::RefusesLong;
-use crate::piece_text::PieceText;
 use crate::turns::sending::{Sent, send};
 use crate::turns::working::{Work, take_lines};
 pub use buffers::{MAX_UNREAD, TurnBuffers};
@@ -85,7 +83,7 @@ pub struct LineTurns<G: Drop, T: PieceText> {
 impl<G: Drop, T: PieceText> Model for LineTurns<G, T> {
     ghost use Rattle.std.specs.Prelude.{◌≤◌, vec_len};
     ghost use Rattle.pn_lines.specs.declared.turns.buffers.TheConstants.{MAX_UNREAD};
-    ghost use Rattle.pn_lines.specs.TurnStates.{TurnValue};
+    ghost use Rattle.pn_lines.specs.Turns.{TurnValue};
 
     ghost Value = { TurnValue G };
 
@@ -124,10 +122,10 @@ impl<G: Drop, T: PieceText> LineTurns<G, T> {
     }
 
     /// Whether an answer is gone on with.
-    pub fn is_going(&self) -> bool
+    pub fn is_pending(&self) -> bool
         ensures { result ≡ goes_on self.now.engine.stage }
     {
-        self.engine.is_going()
+        self.engine.is_pending()
     }
 
     /// One turn: goes on where the last one stopped, with a bounded number of bytes that are read, taken, made and written, and a
@@ -135,7 +133,7 @@ impl<G: Drop, T: PieceText> LineTurns<G, T> {
     ///
     /// Where the sink leaves replies nothing is read and no line is begun. An answer that was begun is gone on with, so that what
     /// waits for the sink is text.
-    pub fn turn<M: RefusesLong<Going = G, Text = T>, R: Input, W: Sink>(
+    pub fn turn<M: RefusesLong<Pending = G, Text = T>, R: Input, W: Sink>(
         &mut self,
         buffers: &mut TurnBuffers,
         machine: &mut M,
@@ -160,7 +158,7 @@ impl<G: Drop, T: PieceText> LineTurns<G, T> {
     }
 
     // Works, and writes what is taken of the replies.
-    fn work_and_send<M: RefusesLong<Going = G, Text = T>, R: Input, W: Sink>(
+    fn work_and_send<M: RefusesLong<Pending = G, Text = T>, R: Input, W: Sink>(
         &mut self,
         buffers: &mut TurnBuffers,
         machine: &mut M,

@@ -4,15 +4,13 @@ use Rattle.std.specs.FinMap.{find}
 use Rattle.std.specs.Prelude.{Option, Some}
 use mathlib.Core.List.{IsPrefix}
 use Rattle.pn_join.specs.Marks.{Positions, Reaches}
-use Rattle.pn_record.specs.declared.image.Image.{Image}
-use Rattle.pn_record.specs.CellMap.{Entries, table_of}
+use Rattle.pn_record.specs.declared.records.Image.{Image}
+use Rattle.pn_record.specs.Cells.{Entries, table_of}
 use Rattle.pn_record.proofs.CellMaps.{table_of-nil}
-use Rattle.pn_record.specs.Order.{bytes_cmp}
-use Rattle.pn_record.specs.Sets.{CellValue, set_of}
-use Rattle.pn_stream.specs.Brokers.{BrokerRecord, up_to, AreHonest}
-use Rattle.pn_stream.specs.Positions.{DeliveryValue}
+use Rattle.pn_record.specs.Sets.{bytes_cmp, CellValue, set_of}
+use Rattle.pn_stream.specs.Brokers.{BrokerRecord, up_to, AreHonest, DeliveryValue}
 use Rattle.pn_tablet.specs.Copies.{TabletCopyValue, IsCopy}
-use Rattle.pn_tablet.specs.Ranges.{Ends, in_range}
+use Rattle.pn_tablet.specs.Layouts.{Ends, in_range}
 use Rattle.pn_tablet.specs.Steps.{tablet_after, after_step, with_join, state_of}
 use Rattle.pn_tablet.specs.Tablets.{TabletStateValue, empty_tablet, lie_in}
 use Rattle.pn_tablet.specs.declared.fault.OpFault.TheVariants.{WrongRange}
@@ -22,32 +20,24 @@ use Rattle.pn_tablet.specs.declared.state.Status.TheVariants.{Serving}
 use Rattle.pn_tablet.proofs.TabletLaws.{never_falls}
 use Rattle.pn_apply.specs.Reducing.{all_images, images_in, join_in}
 use Rattle.pn_apply.proofs.ReduceLaws.{cells_inside}
-use Rattle.pn_region.specs.Events.{round, loss, adoption}
-use Rattle.pn_region.specs.Faith.{IsFaithful, AreFaithful}
-use Rattle.pn_region.specs.Held.{HoldsStill}
-use Rattle.pn_region.specs.Honest.{IsHonestCopy}
-use Rattle.pn_region.specs.Marking.{new_marks}
+use Rattle.pn_region.specs.Events.{round, loss, adoption, IsHonestCopy}
+use Rattle.pn_region.specs.Laws.{IsFaithful, AreFaithful}
+use Rattle.pn_region.specs.Reads.{HoldsStill}
+use Rattle.pn_region.specs.Rounds.{new_marks, joins}
 use Rattle.pn_region.specs.Regions.{IsRegion}
 use Rattle.pn_region.specs.Rounds as rounds
-use Rattle.pn_region.specs.Rounds.{joins}
 use Rattle.pn_region.proofs.Faith.{brought}
-use Rattle.pn_region.proofs.FaithfulCopies.{serving_has_all}
-use Rattle.pn_region.proofs.FaithfulEvents.{event_faithful}
-use Rattle.pn_region.proofs.InRange.{more_in, to_images_in}
+use Rattle.pn_region.proofs.FaithfulEvents.{serving_has_all, event_faithful}
+use Rattle.pn_region.proofs.KeptRecords.{more_in, to_images_in, more_held}
 use Rattle.pn_region.proofs.RoundSteps.{new_reached}
-use Rattle.pn_region.proofs.StillHeld.{more_held}
-use Rattle.pn_region.proofs.UpTo.{up_to_more}
-use Rattle.pn_live.specs.Honest.{IsHonestList, AreHonestTablets}
+use Rattle.pn_region.proofs.MarkLaws.{up_to_more}
+use Rattle.pn_live.specs.PublishedTablets.{IsHonestList, AreHonestTablets, PublishedTabletValue, state_at, AreNewTablets, with_op, with_ops, note_of}
 use Rattle.pn_live.specs.Laws.{HasImage}
-use Rattle.pn_live.specs.LiveRegions.{LiveRegionValue, core, tablets_after_round}
-use Rattle.pn_live.specs.PublishedTablets.{PublishedTabletValue, state_at, AreNewTablets, with_op, with_ops, note_of}
-use Rattle.pn_live.specs.Recovery.{with_op_at, after_op_at, Adopts, Advances}
-use Rattle.pn_live.specs.TabletReaders.{TabletReaderValue, Finds, Learns, KnowsMore}
-use Rattle.pn_live.proofs.ListLaws.{fold_on, range_kept}
-use Rattle.pn_live.proofs.OneReach.{one_reach}
-use Rattle.pn_live.proofs.OneTablet.{core_after}
+use Rattle.pn_live.specs.LiveRegions.{LiveRegionValue, core, tablets_after_round, with_op_at, after_op_at, Adopts, Advances}
+use Rattle.pn_live.specs.Readers.{TabletReaderValue, Finds, Learns, KnowsMore}
+use Rattle.pn_live.proofs.ListLaws.{fold_on, range_kept, one_reach, has_image, found_alone}
+use Rattle.pn_live.proofs.Rounds.{core_after}
 use Rattle.pn_live.proofs.Prefixes.{begins_itself, begins_on}
-use Rattle.pn_live.proofs.TabletReaderLaws.{has_image, found_alone}
 
 -- what begins a list with one element more begins the list, or is the whole
 begins_or_whole : {A : Type 0} (first list : List A) (x : A) → IsPrefix first (list ++ x ∷ []) → IsPrefix first list ⊎ (first ≡ list ++ x ∷ [])
@@ -209,14 +199,14 @@ module _ (broker : BrokerRecord) where
       → (image : Image) → Contains (all_images deliveries) image → IsTrue (in_range tablet.range image.key) → HasImage image (find bytes_cmp image.key now.cells)
   not_missed_across tablet old marks deliveries reader learnt later last now brings accepted ranged learns more found honest serves image there lies =
       let op = join_in marks (all_images deliveries) tablet.range in
-      let told = tablet.list ++ op ∷ [] in
-      let begins : IsPrefix told last.seen = begins_on told later.told last.seen (begins_on told learnt.told later.told learns.note more.told) found.told in
+      let with_new = tablet.list ++ op ∷ [] in
+      let begins : IsPrefix with_new last.seen = begins_on with_new later.learnt last.seen (begins_on with_new learnt.learnt later.learnt learns.note more.learnt) found.learnt in
       let range : last.range ≡ tablet.range = ap (λ (w : TabletReaderValue). w.range) found.same ∙ (more.range ∙ (ap (λ (w : TabletReaderValue). w.range) learns.same ∙ ranged)) in
       let is : now ≡ state_of tablet.range last.seen = found.state ∙ ap (λ (r : Ends). state_of r last.seen) range in
-      let first : Reaches (state_of tablet.range told).cover marks =
+      let first : Reaches (state_of tablet.range with_new).cover marks =
       subst (λ (t : TabletStateValue). Reaches t.cover marks) (sym (fold_on (empty_tablet tablet.range) tablet.list (op ∷ [])))
       (join_reaches (state_of tablet.range tablet.list) marks (all_images deliveries) tablet.range (range_kept (empty_tablet tablet.range) tablet.list)) in
-      let on = cover_begins tablet.range told last.seen begins in
+      let on = cover_begins tablet.range with_new last.seen begins in
       let reach : Reaches now.cover marks =
       subst (λ (t : TabletStateValue). Reaches t.cover marks) (sym is) (λ name. omega (arith, first name, on name)) in
       let has = found_all later last now found honest serves ∙ ap (λ (r : Ends). table_of (images_in r (up_to broker now.cover))) range in

@@ -2,10 +2,9 @@
 use Rattle.std.specs.Prelude.{◌≡◌, ◌⊎◌, ℕ, List, [], ◌∷◌, drop, Option, None, Some, IsTrue}
 use Rattle.std.specs.FinMap.{contains_key}
 use Rattle.std.specs.Ordering.{is_lt}
-use Rattle.pn_record.specs.Order.{version_cmp}
-use Rattle.pn_record.specs.Sets.{CellValue}
-use Rattle.pn_record.specs.declared.image.Image.{Image}
-use Rattle.pn_live.specs.TabletReaders.{TabletReaderValue, KnowsMore}
+use Rattle.pn_record.specs.Sets.{version_cmp, CellValue}
+use Rattle.pn_record.specs.declared.records.Image.{Image}
+use Rattle.pn_live.specs.Readers.{TabletReaderValue, KnowsMore}
 use Rattle.pn_tablet.specs.declared.state.TabletOp.{TabletOp}
 use Rattle.pn_tablet.specs.declared.state.TabletOp.TheVariants.{Lose}
 

@@ -1,6 +1,6 @@
 -- What is published of a live tablet, and what a reader knows of it.
 use Rattle.std.specs.Prelude.{◌≡◌, List}
-use Rattle.pn_tablet.specs.Ranges.{Ends}
+use Rattle.pn_tablet.specs.Layouts.{Ends}
 use Rattle.pn_tablet.specs.Steps.{state_of}
 use Rattle.pn_tablet.specs.Tablets.{TabletStateValue}
 use Rattle.pn_tablet.specs.declared.state.TabletOp.{TabletOp}
@@ -23,8 +23,8 @@ abbrev pub seen_by : ReaderHandle → List TabletOp
 seen_by handle = list_of handle.seen.value
 
 -- the operations that the reader learnt
-abbrev pub told_to : ReaderHandle → List TabletOp
-told_to handle = settled_of handle.told.seen.log
+abbrev pub learnt_by : ReaderHandle → List TabletOp
+learnt_by handle = settled_of handle.learnt.seen.log
 
 -- the range of the reader's tablet
 abbrev pub range_of : ReaderHandle → Ends
@@ -36,5 +36,5 @@ found_by guard = state_of guard.found.value.state.range (list_of guard.found.val
 
 -- the reader is of this tablet
 pub record IsReaderOf (tablet : LiveTablet) (handle : ReaderHandle) : Type 0 where
-  pub book : handle.told.seen.book ≡ tablet.settled.seen.book
+  pub book : handle.learnt.seen.book ≡ tablet.settled.seen.book
   pub range : range_of handle ≡ (state_in tablet).range

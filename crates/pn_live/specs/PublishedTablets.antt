@@ -1,10 +1,16 @@
--- What is published of each live tablet of a region.
+-- What is published of each live tablet of a region, and lists that are honest about what brokers published.
 use Rattle.std.specs.Prelude.{◌≡◌, List, [], ◌∷◌, ◌++◌, map}
+use Rattle.std.specs.List.{AllByRecursion}
 use Rattle.logbook.specs.Pages.{Book}
-use Rattle.pn_tablet.specs.Ranges.{Ends}
+use mathlib.Core.List.{IsPrefix}
+use Rattle.pn_tablet.specs.Layouts.{Ends}
 use Rattle.pn_tablet.specs.Steps.{state_of}
 use Rattle.pn_tablet.specs.Tablets.{TabletStateValue}
 use Rattle.pn_tablet.specs.declared.state.TabletOp.{TabletOp}
+use Rattle.pn_stream.specs.Brokers.{BrokerRecord}
+use Rattle.pn_region.specs.Laws.{IsFaithful}
+
+-- What is published of each live tablet of a region.
 
 -- a live tablet: which one it is, its range, and the operations that are published
 pub record PublishedTabletValue : Type 0 where
@@ -51,3 +57,13 @@ note_of tablet = record { book = tablet.book; list = tablet.list }
 -- the notes of all tablets
 abbrev pub notes_of : List PublishedTabletValue → List TabletNoteValue
 notes_of tablets = map note_of tablets
+
+-- Published lists that are honest about what brokers published.
+
+-- the state of each beginning of the list is faithful
+abbrev pub IsHonestList : BrokerRecord → Ends → List TabletOp → Type 0
+IsHonestList broker range list = (first : List TabletOp) → IsPrefix first list → IsFaithful broker (state_of range first)
+
+-- what is published of each live tablet is honest
+abbrev pub AreHonestTablets : BrokerRecord → List PublishedTabletValue → Type 0
+AreHonestTablets broker tablets = AllByRecursion (λ tablet. IsHonestList broker tablet.range tablet.list) tablets

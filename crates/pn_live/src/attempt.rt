@@ -1,6 +1,6 @@
 //! Attempts to publish, and the rule of the book that keeps those of one tablet.
 
-use crate::publish_position::PublishPosition;
+use crate::publication_order::PublishPosition;
 use logbook::{Gain, Plain, Play, Rule};
 use std::collections::LinkedList;
 use std::marker::PhantomData;
@@ -21,7 +21,7 @@ pub struct AttemptRule<O> {
 impl<O> Rule<Attempt<O>, u64> for AttemptRule<O> {
     ghost use Rattle.std.specs.Prelude.{[]};
     ghost use base.Fml.{ftrue};
-    ghost use Rattle.pn_live.specs.Books.{IsKept};
+    ghost use Rattle.pn_live.specs.Attempts.{IsKept};
 
     ghost holds = { λ cells log. IsKept cells log };
 
@@ -49,7 +49,7 @@ impl<O> Gain<Attempt<O>, u64> for NoGain {
 pub struct AddAttempt;
 
 impl<O> Play<Attempt<O>, u64> for AddAttempt {
-    ghost use Rattle.pn_live.specs.Books.{Adds};
+    ghost use Rattle.pn_live.specs.Attempts.{Adds};
 
     ghost then = { Adds };
 }

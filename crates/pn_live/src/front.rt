@@ -3,7 +3,7 @@
 ghost use Rattle.std.specs.Prelude.{◌≡◌};
 ghost use Rattle.pn_live.specs.Attempts.{settled_of};
 
-use crate::publish_position::PublishPosition;
+use crate::publication_order::PublishPosition;
 use pn_tablet::TabletOp;
 use std::marker::Model;
 
@@ -19,7 +19,7 @@ impl Model for TabletNote {
 
     ghost Value = { TabletNoteValue };
 
-    ghost use Rattle.pn_live.specs.Proofs.Coding.{note_code};
+    ghost use Rattle.pn_live.specs.Proofs.{note_code};
 
     ghost coded = { note_code };
 
@@ -59,7 +59,7 @@ impl Model for Front {
     ghost Value = { List TabletNoteValue };
 
     ghost use Rattle.std.specs.Coded.{coded_list};
-    ghost use Rattle.pn_live.specs.Proofs.Coding.{note_code};
+    ghost use Rattle.pn_live.specs.Proofs.{note_code};
 
     ghost coded = { coded_list note_code };
 

@@ -5,13 +5,12 @@ ghost use Rattle.pn_tablet.specs.Prelude.{Bounds};
 ghost use Rattle.pn_scan.specs.Paging.{OnlyLooks};
 ghost use Rattle.pn_scan.specs.Prelude.{LookMade};
 ghost use Rattle.pn_scan.specs.Views.{is_memory};
-ghost use Rattle.pn_live.specs.Getting.{cells_shown, EndsGet, GetsOn, IsNewGet, IsOnGet};
+ghost use Rattle.pn_live.specs.Lookups.{cells_shown, EndsGet, GetsOn, IsNewGet, IsOnGet};
 ghost use Rattle.pn_live.specs.Readers.{LiveReaderValue, LooksLive, tablets_of};
 
 use crate::LiveReader;
-use crate::reader::with_cell;
 use pn_record::{Cell, Key};
-use pn_scan::{ScanFault, View};
+use pn_scan::{ScanFault, View, with_cell};
 use std::alloc::Global;
 use std::marker::Model;
 
@@ -27,11 +26,11 @@ pub struct GetWalk {
 impl Model for GetWalk {
     ghost use Rattle.std.specs.Prelude.{◌≡◌, ◌≤◌, List, Option, option_map, length, vec_capacity, vec_len, IfSome};
     ghost use Rattle.pn_record.specs.Prelude.{CellValue};
-    ghost use Rattle.pn_live.specs.Getting.{GetWalkValue};
+    ghost use Rattle.pn_live.specs.Lookups.{GetWalkValue};
 
     ghost Value = { GetWalkValue };
 
-    ghost use Rattle.pn_live.specs.Proofs.Coding.{get_walk_code};
+    ghost use Rattle.pn_live.specs.Proofs.{get_walk_code};
 
     ghost coded = { get_walk_code };
 

@@ -3,19 +3,17 @@
 ghost use Rattle.std.specs.Prelude.{◌≡◌, ◌++◌, ◌∷◌, [], ◌^◌, ◌<◌, Ok, IfOk, IfSome, Some, take, length};
 ghost use Rattle.left_right.specs.Sides.{view};
 ghost use Rattle.pn_tablet.specs.Prelude.{HasPositions, step, TabletStateValue, empty_tablet};
-ghost use Rattle.pn_live.specs.Attempts.{settled_of, tried_of};
-ghost use Rattle.pn_live.specs.Books.{counter_of};
-ghost use Rattle.pn_live.specs.Drafts.{Lacks};
+ghost use Rattle.pn_live.specs.Attempts.{settled_of, tried_of, counter_of, Lacks};
 ghost use Rattle.pn_live.specs.Orders.{list_of, IsLater};
-ghost use Rattle.pn_live.specs.Proofs.DraftFacts.{draft_props};
+ghost use Rattle.pn_live.specs.Proofs.{draft_props};
 
 mod attempts;
 mod closing;
-mod drafting;
 mod state_draft;
 
-use crate::publish_order::{ExtendsSeen, PairWriter, SharesView};
-use crate::publish_position::{AttemptCounter, PublishPosition, open_book};
+use crate::publication_order::{
+    AttemptCounter, ExtendsSeen, PairWriter, PublishPosition, SharesView, open_book,
+};
 use crate::published_state::PublishedState;
 use crate::reader_handle::ReaderHandle;
 use attempts::{begin_attempt, end_attempt};
@@ -68,7 +66,7 @@ fn show<R: Wait>(rt: &R, writer: &mut PairWriter, next: PublishedState)
 }
 
 impl LiveTablet {
-    ghost use Rattle.pn_live.specs.Published.{published_ops, state_in, seen_by, told_to, IsReaderOf};
+    ghost use Rattle.pn_live.specs.Published.{published_ops, state_in, seen_by, learnt_by, IsReaderOf};
 
     /// Opens an empty tablet of the range, with capacity for `readers` readers. It has no reader to wait for.
     pub fn open<R: Wait>(
@@ -144,20 +142,20 @@ impl LiveTablet {
     /// A new reader, which has seen and learnt what is published. `None` when there are as many as it has capacity for.
     pub fn new_reader(&mut self) -> Option<ReaderHandle>
         ensures reader { IfSome result (λ handle. IsReaderOf self.new handle) }
-        ensures seen { IfSome result (λ handle. (seen_by handle ≡ published_ops self.old) × (told_to handle ≡ published_ops self.old)) }
+        ensures seen { IfSome result (λ handle. (seen_by handle ≡ published_ops self.old) × (learnt_by handle ≡ published_ops self.old)) }
         ensures kept { (state_in self.new ≡ state_in self.old) × (self.new.settled ≡ self.old.settled) }
     {
         let factory = self.writer.factory();
         let mut reader = factory.reader().ok()?;
         let note = self.writer.desk.tell::<SharesView>();
         reader.learn::<SharesView>(note);
-        let told = self.settled.again();
+        let learnt = self.settled.again();
         let shown = self.writer.published();
         let seen = Snapshot::of(shown);
         let found = Snapshot::of(shown);
         Some(ReaderHandle {
             reader,
-            told,
+            learnt,
             seen,
             found,
         })

@@ -4,7 +4,7 @@ ghost use Rattle.std.specs.Prelude.{◌≡◌, IfOk};
 ghost use Rattle.pn_tablet.specs.Prelude.{state_of};
 ghost use Rattle.pn_live.specs.Attempts.{tried_of};
 
-use crate::publish_position::PublishPosition;
+use crate::publication_order::PublishPosition;
 use left_right::Absorb;
 use pn_join::{Dup, NoMemory};
 use pn_tablet::{TabletOp, TabletState};

@@ -1,19 +1,17 @@
-//! The live tablets of a region, as what is published of each.
+//! A live tablet's published states.
 
-ghost use Rattle.std.specs.Prelude.{◌≡◌, ◌≤◌, ◌<◌, ◌^◌, ◌++◌, ◌∷◌, [], length, Ok, IfOk, IfSome, IsTrue};
-ghost use Rattle.pn_tablet.specs.Prelude.{tablet_ends, HasPositions, step};
-ghost use Rattle.pn_live.specs.Closing.{IsOfTablet, KnowsPublished};
+ghost use Rattle.std.specs.Prelude.{◌≡◌, ◌≤◌, ◌<◌, ◌^◌, ◌++◌, ◌∷◌, [], length, Ok, IfOk, IfSome, IsTrue, IsOk, option_map};
+ghost use Rattle.pn_tablet.specs.Prelude.{tablet_ends, HasPositions, step, need_shortfall};
+ghost use Rattle.pn_live.specs.Readers.{IsOfTablet, KnowsPublished, new_reader_of};
 ghost use Rattle.pn_live.specs.PublishedTablets.{IsNewTablet, state_at, with_op, note_of};
-ghost use Rattle.pn_live.specs.Readers.{new_reader_of};
-
-mod cover;
-mod next_state;
+ghost use Rattle.pn_live.specs.LiveRegions.{too_old};
 
 use crate::front::TabletNote;
 use crate::live_tablet::{LiveTablet, StateDraft};
 use crate::publication_order::PublicationOrder;
 use crate::tablet_reader::TabletReader;
-use pn_join::NoMemory;
+use pn_join::{Dup, Marks, NoMemory};
+use pn_region::{AdoptFault, Covered};
 use pn_tablet::{Layout, Range, TabletOp, TabletState};
 use std::alloc::Global;
 use std::marker::Model;
@@ -32,7 +30,7 @@ impl Model for PublishedTablet {
 
     ghost Value = { PublishedTabletValue };
 
-    ghost use Rattle.pn_live.specs.Proofs.Coding.{published_tablet_code};
+    ghost use Rattle.pn_live.specs.Proofs.{published_tablet_code};
 
     ghost coded = { published_tablet_code };
 
@@ -54,8 +52,7 @@ impl PublishedTablet {
         requires readers { (0 < readers) × (readers < 2 ^ 32) }
         ensures { IfOk result (λ tablet. IsNewTablet (tablet_ends layout.now number) tablet) }
     {
-        let (from, to) = layout.range(number);
-        let range = Range::from_ends(from, to)?;
+        let range = layout.range_of(number)?;
         let live = LiveTablet::open(rt, alloc, range, readers)?;
         Ok(PublishedTablet { live })
     }
@@ -124,5 +121,48 @@ impl PublishedTablet {
     {
         let PublishedTablet { live } = self;
         live.close(rt)
+    }
+}
+
+impl Covered for PublishedTablet {
+    ghost tablet = { state_at };
+
+    fn cover(&self) -> &Marks {
+        self.live.state().cover()
+    }
+}
+
+impl PublishedTablet {
+    /// The range of its keys.
+    pub fn range(&self) -> &Range
+        ensures { result.now ≡ self.now.range }
+    {
+        self.live.state().range()
+    }
+
+    /// The state that an operation makes of its own, which does not refuse it.
+    pub fn after(&self, operation: &TabletOp) -> Result<TabletState, NoMemory>
+        requires positions { HasPositions operation.now }
+        requires taken { IsOk (step (state_at self.now) operation.now) }
+        ensures { IfOk result (λ next. step (state_at self.now) operation.now ≡ Ok next) }
+    {
+        let mut state = self.live.state().dup()?;
+        if state.apply(operation).is_err() {
+            return Err(NoMemory);
+        }
+        Ok(state)
+    }
+
+    /// Why a copy with these marks is too old: the first stream at which they fall short of what the tablet
+    /// needs.
+    pub fn refusal(&self, marks: &Marks) -> Option<AdoptFault>
+        ensures { result ≡ option_map too_old (need_shortfall (state_at self.now).status marks.now) }
+    {
+        let short = self.live.state().need_shortfall(marks)?;
+        Some(AdoptFault::TooOld {
+            stream: short.stream,
+            has: short.has,
+            needs: short.wanted,
+        })
     }
 }

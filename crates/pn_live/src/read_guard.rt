@@ -7,8 +7,7 @@ ghost use Rattle.pn_region.specs.Prelude.{IsSound};
 ghost use Rattle.pn_live.specs.Attempts.{settled_of};
 ghost use Rattle.pn_live.specs.Orders.{list_of};
 
-use crate::publish_order::PublishOrder;
-use crate::publish_position::PublishPosition;
+use crate::publication_order::{PublishOrder, PublishPosition};
 use crate::published_state::PublishedState;
 use crate::reader_handle::ReaderHandle;
 use left_right::reader::Reading;
@@ -19,11 +18,11 @@ use std::snapshot::Snapshot;
 /// A reader with the state that it found. It is not `Drop`: end it by `leave`.
 pub struct ReadGuard {
     reading: Reading<PublishedState, Option<PublishedState>, PublishOrder>,
-    pub told: PublishPosition<TabletOp>,
+    pub learnt: PublishPosition<TabletOp>,
     pub found: Snapshot<PublishedState>,
     ghost viewed: { view reading.place ≡ Some found.value },
     ghost held: { reading.part.value ≡ found.value },
-    ghost book: { found.value.position.seen.book ≡ told.seen.book },
+    ghost book: { found.value.position.seen.book ≡ learnt.seen.book },
 }
 
 impl ReadGuard {
@@ -34,34 +33,34 @@ impl ReadGuard {
     pub fn stay(
         reading: Reading<PublishedState, Option<PublishedState>, PublishOrder>,
         found: Snapshot<PublishedState>,
-        told: PublishPosition<TabletOp>,
+        learnt: PublishPosition<TabletOp>,
         seen: Snapshot<PublishedState>,
     ) -> Result<ReadGuard, ReaderHandle>
         requires viewed { view reading.place ≡ Some found.value }
         requires held { reading.part.value ≡ found.value }
-        requires book { found.value.position.seen.book ≡ told.seen.book }
+        requires book { found.value.position.seen.book ≡ learnt.seen.book }
         requires range { found.value.state.range ≡ seen.value.state.range }
         requires goes_on { take (length (list_of seen.value)) (list_of found.value) ≡ list_of seen.value }
         requires begins { IsPrefix (list_of seen.value) (list_of found.value) }
         ensures answer { MatchResult result
-            (λ guard. IsPrefix (list_of seen.value) (list_of guard.found.value) × IsPrefix (settled_of told.seen.log) (list_of guard.found.value)
-            × (guard.told ≡ told) × (guard.found.value.state.range ≡ seen.value.state.range))
-            (λ handle. (seen_by handle ≡ list_of seen.value) × (handle.told ≡ told) × (range_of handle ≡ seen.value.state.range)) }
-        ensures far { OnErr result (length found.value.position.seen.log + 1 < length told.seen.log) }
+            (λ guard. IsPrefix (list_of seen.value) (list_of guard.found.value) × IsPrefix (settled_of learnt.seen.log) (list_of guard.found.value)
+            × (guard.learnt ≡ learnt) × (guard.found.value.state.range ≡ seen.value.state.range))
+            (λ handle. (seen_by handle ≡ list_of seen.value) × (handle.learnt ≡ learnt) × (range_of handle ≡ seen.value.state.range)) }
+        ensures far { OnErr result (length found.value.position.seen.log + 1 < length learnt.seen.log) }
     {
         let shown = reading.get();
-        let near = told.is_within(&shown.position);
+        let near = learnt.is_within(&shown.position);
         if near {
             return Ok(ReadGuard {
                 reading,
-                told,
+                learnt,
                 found,
             });
         }
         let reader = reading.leave();
         Err(ReaderHandle {
             reader,
-            told,
+            learnt,
             seen,
             found,
         })
@@ -87,19 +86,19 @@ impl ReadGuard {
     /// Leaves the tablet. The state found counts as seen.
     pub fn leave(self) -> ReaderHandle
         ensures seen { seen_by result ≡ list_of self.found.value }
-        ensures told { result.told ≡ self.told }
+        ensures learnt { result.learnt ≡ self.learnt }
         ensures range { range_of result ≡ self.found.value.state.range }
     {
         let ReadGuard {
             reading,
-            told,
+            learnt,
             found,
         } = self;
         let seen = Snapshot::of(reading.get());
         let reader = reading.leave();
         ReaderHandle {
             reader,
-            told,
+            learnt,
             seen,
             found,
         }

@@ -1,28 +1,20 @@
 //! Readers of a live region.
 
-ghost use Rattle.std.specs.Prelude.{◌≡◌, ◌+◌, ◌≤◌, ◌<◌, ◌++◌, ◌∷◌, [], true, false, List, map, max};
-ghost use Rattle.std.specs.Prelude.{Option, Some, Ok, Err, IfOk, IfErr, IfSome, IsSomeAnd, IsOkAnd, IsErrOf, length, vec_capacity, vec_len};
+ghost use Rattle.std.specs.Prelude.{◌≡◌, ◌+◌, ◌≤◌, ◌<◌, List, map, max, Option, IsErrOf, length};
 ghost use Rattle.pn_tablet.specs.Prelude.{tablet_of, TabletStateValue};
 ghost use Rattle.pn_scan.specs.Prelude.{Look, first_page, IsRead, IsGet, IsScan};
-ghost use Rattle.pn_scan.specs.Views.{is_memory};
-ghost use Rattle.pn_live.specs.Copying.{IsCopied};
-ghost use Rattle.pn_live.specs.Counting.{IsCounted};
-ghost use Rattle.pn_live.specs.Readers.{LooksLive, IsFrontFor, AreTabletReadersOf, tablets_of};
-ghost use Rattle.pn_live.specs.TabletReaders.{AllLearn};
-ghost use Rattle.pn_live.specs.declared.reader.TheConstants.{ENTRY_WORK};
+ghost use Rattle.pn_scan.specs.declared.walk.TheConstants.{MAX_PART_WORK};
+ghost use Rattle.pn_live.specs.Lookups.{IsCopied, IsCounted};
+ghost use Rattle.pn_live.specs.Readers.{LooksLive, IsFrontFor, AreTabletReadersOf, tablets_of, AllLearn};
 
 use crate::front::{Front, TabletNote};
 use crate::tablet_reader::TabletReader;
 use pn_join::Marks;
 use pn_record::{Cell, Key, Version};
-use pn_scan::{Budget, Page, PartResult, Query, ScanFault, View, page, read_at_least};
+use pn_scan::{Budget, Page, PartResult, Query, ScanFault, View, get, page, read_at_least};
 use pn_tablet::{CopyFault, Layout, RecordCounts, TabletCopy};
 use std::alloc::Global;
 use std::marker::Model;
-
-/// How much work one entry into a tablet does where there is as much; it takes the other records with it, by a slice. While a
-/// reader is inside, the writer spins. A page without conditions is no more work, and a slice costs more than this.
-pub const ENTRY_WORK: usize = 2_048;
 
 /// A reader of a live region, for one thread at a time. None of its calls waits.
 #[derive(Drop)]
@@ -37,7 +29,7 @@ impl Model for LiveReader {
 
     ghost Value = { LiveReaderValue };
 
-    ghost use Rattle.pn_live.specs.Proofs.Coding.{reader_code};
+    ghost use Rattle.pn_live.specs.Proofs.{reader_code};
 
     ghost coded = { reader_code };
 
@@ -76,7 +68,7 @@ impl LiveReader {
     /// Learns a front of its live region: from then on it finds no less of any tablet.
     pub fn learn(&mut self, front: Front)
         requires { IsFrontFor self.old front }
-        ensures told { AllLearn self.old.tablet_readers front self.new.tablet_readers }
+        ensures learnt { AllLearn self.old.tablet_readers front self.new.tablet_readers }
         ensures same { tablets_of self.new ≡ tablets_of self.old }
     {
         learn_all(self.tablet_readers.as_mut_slice(), front.into_notes());
@@ -106,7 +98,7 @@ impl LiveReader {
         ensures same { tablets_of self.new ≡ tablets_of self.old }
     {
         let alloc = self.alloc;
-        get_cells(alloc, self, keys)
+        get(alloc, self, keys)
     }
 
     /// The first rows that a query shows, up to its limit, and the query for the rest, if any. Tablets that may have rows
@@ -159,51 +151,11 @@ fn learn_all(tablet_readers: &mut [TabletReader], notes: Vec<TabletNote>)
     }
 }
 
-// The cells of keys in order, each read by an entry of its own. Where memory runs out, the other keys are still read,
-// since the fault of a tablet is answered first.
-fn get_cells(
-    alloc: Global,
-    reader: &mut LiveReader,
-    keys: &[Key],
-) -> Result<Vec<Option<Cell>>, ScanFault>
-    ensures { (seen : List Look) × IsGet LooksLive reader.old.layout keys.now reader.old reader.new (λ cells. cells.items) result seen
-        × (IsErrOf result ScanFault.Memory → length seen ≡ length keys.now) }
-{
-    let mut cells = Vec::with_capacity(alloc, keys.len()).ok();
-    for key in keys {
-        cells = with_cell(cells, reader.cell(key))?;
-    }
-    cells.ok_or(ScanFault::Memory)
-}
-
-/// The cells with one more, or none once memory ran out.
-pub(crate) fn with_cell(
-    cells: Option<Vec<Option<Cell>>>,
-    read: Result<Option<Cell>, ScanFault>,
-) -> Result<Option<Vec<Option<Cell>>>, ScanFault>
-    requires capacity { IfSome cells (λ cells. vec_len cells < vec_capacity cells) }
-    ensures cells { IfOk result (λ now. IfSome now (λ now. IsSomeAnd cells (λ was. IsOkAnd read (λ cell. now.items ≡ was.items ++ cell ∷ [])))) }
-    ensures kept { IfOk result (λ now. IfSome now (λ now. IsSomeAnd cells (λ was. (vec_len now ≡ vec_len was + 1) × (vec_capacity now ≡ vec_capacity was)))) }
-    ensures memory { IfOk result (λ _. IfErr read (λ fault. is_memory fault ≡ true)) }
-    ensures fault { IfErr result (λ fault. (read ≡ Err fault) × (is_memory fault ≡ false)) }
-{
-    let cell = match read {
-        Ok(cell) => cell,
-        Err(ScanFault::Memory) => return Ok(None),
-        Err(fault) => return Err(fault),
-    };
-    let Some(mut cells) = cells else {
-        return Ok(None);
-    };
-    cells.push_reserved(cell);
-    Ok(Some(cells))
-}
-
 /// Each look is one entry into one tablet.
 impl View for LiveReader {
     ghost bounds = { λ reader. reader.layout };
 
-    ghost most = { λ work. max work ENTRY_WORK };
+    ghost most = { λ work. max work MAX_PART_WORK };
 
     ghost looks = { LooksLive };
 
@@ -212,12 +164,7 @@ impl View for LiveReader {
     }
 
     fn part(&mut self, tablet: usize, query: &Query, room: usize, budget: Budget) -> PartResult {
-        let work = budget.work.max(ENTRY_WORK);
-        let entry = Budget {
-            alloc: budget.alloc,
-            work,
-        };
-        self.tablet_readers[tablet].part(tablet, query, room, entry)
+        self.tablet_readers[tablet].part(tablet, query, room, budget)
     }
 
     fn cell(&mut self, key: &Key) -> Result<Option<Cell>, ScanFault> {

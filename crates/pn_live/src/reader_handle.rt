@@ -5,10 +5,9 @@ ghost use mathlib.Core.List.{IsPrefix};
 ghost use Rattle.left_right.specs.Sides.{view};
 ghost use Rattle.pn_live.specs.Attempts.{settled_of};
 ghost use Rattle.pn_live.specs.Orders.{list_of, IsLater};
-ghost use Rattle.pn_live.specs.TabletReaders.{longer_of};
+ghost use Rattle.pn_live.specs.Readers.{longer_of};
 
-use crate::publish_order::{ExtendsSeen, PairReader, PublishOrder};
-use crate::publish_position::PublishPosition;
+use crate::publication_order::{ExtendsSeen, PairReader, PublishOrder, PublishPosition};
 use crate::published_state::PublishedState;
 use crate::read_guard::ReadGuard;
 use left_right::reader::Reading;
@@ -20,11 +19,11 @@ use std::snapshot::Snapshot;
 #[derive(Drop)]
 pub struct ReaderHandle {
     pub reader: PairReader,
-    pub told: PublishPosition<TabletOp>,
+    pub learnt: PublishPosition<TabletOp>,
     pub seen: Snapshot<PublishedState>,
     pub found: Snapshot<PublishedState>,
     ghost viewed: { view reader.place ≡ Some found.value },
-    ghost book: { found.value.position.seen.book ≡ told.seen.book },
+    ghost book: { found.value.position.seen.book ≡ learnt.seen.book },
     ghost range: { found.value.state.range ≡ seen.value.state.range },
     ghost goes_on: { take (length (list_of seen.value)) (list_of found.value) ≡ list_of seen.value },
 }
@@ -55,28 +54,28 @@ fn find(
 }
 
 impl ReaderHandle {
-    ghost use Rattle.pn_live.specs.Published.{seen_by, told_to, range_of};
+    ghost use Rattle.pn_live.specs.Published.{seen_by, learnt_by, range_of};
 
     /// Enters the tablet, and finds a state that extends all that this reader saw and learnt. The handle comes
     /// back as it was where the entry is refused.
-    #[tactic(auto, using(crate::proofs::Replays::begins_later, crate::proofs::Replays::still_on))]
+    #[tactic(auto, using(crate::proofs::Prefixes::begins_later, crate::proofs::Prefixes::still_on))]
     pub fn enter(self) -> Result<ReadGuard, ReaderHandle>
         ensures answer { MatchResult result
-            (λ guard. IsPrefix (seen_by self) (list_of guard.found.value) × IsPrefix (told_to self) (list_of guard.found.value)
-            × (guard.told ≡ self.told) × (guard.found.value.state.range ≡ range_of self))
-            (λ handle. (seen_by handle ≡ seen_by self) × (handle.told ≡ self.told) × (range_of handle ≡ range_of self)) }
+            (λ guard. IsPrefix (seen_by self) (list_of guard.found.value) × IsPrefix (learnt_by self) (list_of guard.found.value)
+            × (guard.learnt ≡ self.learnt) × (guard.found.value.state.range ≡ range_of self))
+            (λ handle. (seen_by handle ≡ seen_by self) × (handle.learnt ≡ self.learnt) × (range_of handle ≡ range_of self)) }
     {
         let ReaderHandle {
             reader,
-            told,
+            learnt,
             seen,
             found,
         } = self;
         match find(reader, &found) {
-            Ok((reading, now)) => ReadGuard::stay(reading, now, told, seen),
+            Ok((reading, now)) => ReadGuard::stay(reading, now, learnt, seen),
             Err(reader) => Err(ReaderHandle {
                 reader,
-                told,
+                learnt,
                 seen,
                 found,
             }),
@@ -85,14 +84,14 @@ impl ReaderHandle {
 
     /// Learns a position: the later one of both is kept.
     pub fn learn(&mut self, note: PublishPosition<TabletOp>)
-        requires { note.seen.book ≡ self.old.told.seen.book }
-        ensures longer { told_to self.new ≡ longer_of (told_to self.old) (settled_of note.seen.log) }
-        ensures told { IsPrefix (told_to self.old) (told_to self.new) }
-        ensures note { IsPrefix (settled_of note.seen.log) (told_to self.new) }
+        requires { note.seen.book ≡ self.old.learnt.seen.book }
+        ensures longer { learnt_by self.new ≡ longer_of (learnt_by self.old) (settled_of note.seen.log) }
+        ensures learnt { IsPrefix (learnt_by self.old) (learnt_by self.new) }
+        ensures note { IsPrefix (settled_of note.seen.log) (learnt_by self.new) }
         ensures seen { self.new.seen ≡ self.old.seen }
-        ensures book { self.new.told.seen.book ≡ self.old.told.seen.book }
+        ensures book { self.new.learnt.seen.book ≡ self.old.learnt.seen.book }
     {
-        let later = self.told.later(&note);
-        self.told = later;
+        let later = self.learnt.later(&note);
+        self.learnt = later;
     }
 }

@@ -1,13 +1,14 @@
 //! Live regions.
 
-ghost use Rattle.std.specs.Prelude.{◌≡◌, ◌≤◌, length, slice_get, Some, IsTrue};
+ghost use Rattle.std.specs.Prelude.{◌≡◌, ◌≤◌, length, slice_get, Some, IsTrue, Ok, IfOk, IfErr, OnOk, OnErr};
 ghost use Rattle.pn_join.specs.Prelude.{are_positions};
-ghost use Rattle.pn_live.specs.LiveRegions.{core};
+ghost use Rattle.pn_live.specs.LiveRegions.{core, tablets_in, Advances};
 ghost use Rattle.pn_region.specs.declared.marking.TheConstants.{MAX_STREAMS};
 ghost use Rattle.pn_region.specs.Log.{last_of};
 ghost use Rattle.pn_region.specs.Prelude.{IsRegion};
+ghost use Rattle.pn_tablet.specs.Prelude.{Refuses};
+ghost use Rattle.pn_region.specs.Recovery.{after_advance, is_no_advance as is_memory, with_marks};
 
-mod advance;
 mod closing;
 mod opening;
 mod planning;
@@ -17,9 +18,9 @@ mod starting;
 
 use crate::publication_order::PublicationOrder;
 use crate::published_tablet::PublishedTablet;
-pub use opening::MAX_READERS;
+pub use crate::region::opening::MAX_READERS;
 use pn_join::Marks;
-use pn_region::Log;
+use pn_region::{AdvanceFault, Log, common_marks};
 use pn_tablet::{Layout, TabletState};
 use std::alloc::Global;
 use std::marker::Model;
@@ -41,7 +42,7 @@ impl Model for LiveRegion {
 
     ghost Value = { LiveRegionValue };
 
-    ghost use Rattle.pn_live.specs.Proofs.Coding.{live_code};
+    ghost use Rattle.pn_live.specs.Proofs.{live_code};
 
     ghost coded = { live_code };
 
@@ -87,5 +88,31 @@ impl LiveRegion {
         ensures region { IsRegion (core self.now) }
     {
         &self.layout
+    }
+}
+
+impl LiveRegion {
+    /// What all tablets have taken: the marks that `advance` takes.
+    ///
+    /// `TooManyStreams` comes exactly where `advance` is refused so, and `Memory` only elsewhere.
+    pub fn common_marks(&self) -> Result<Marks, AdvanceFault>
+        ensures ok { IfOk result (λ marks. after_advance (core self.now) ≡ Ok (with_marks (core self.now) marks)) }
+        ensures refused { IfErr result (λ fault. Refuses is_memory fault (after_advance (core self.now))) }
+    {
+        Ok(common_marks(self.alloc, &self.tablets)?)
+    }
+
+    /// Takes what all tablets have taken as marks, as a region's advance does. Nothing is published, and the log stays.
+    ///
+    /// `TooManyStreams` comes exactly where a region's advance is refused so, and `Memory` only elsewhere. An error
+    /// changes nothing.
+    pub fn advance(&mut self) -> Result<(), AdvanceFault>
+        ensures ok { OnOk result (Advances self.old self.new) }
+        ensures refused { IfErr result (λ fault. Refuses is_memory fault (after_advance (core self.old))) }
+        ensures err { OnErr result (self.new ≡ self.old) }
+        ensures same { tablets_in self.new ≡ tablets_in self.old }
+    {
+        self.marks = common_marks(self.alloc, &self.tablets)?;
+        Ok(())
     }
 }

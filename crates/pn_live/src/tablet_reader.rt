@@ -2,14 +2,12 @@
 
 ghost use Rattle.std.specs.Prelude.{◌≡◌, ◌≤◌, max, MatchResult, Option, IfOk};
 ghost use Rattle.pn_tablet.specs.Prelude.{TabletStateValue};
-ghost use Rattle.pn_scan.specs.Parts.{looked_in};
+ghost use Rattle.pn_scan.specs.Paging.{spent_in};
 ghost use Rattle.pn_scan.specs.Prelude.{rows_at, cell_at, part_at};
-ghost use Rattle.pn_scan.specs.declared.work.TheConstants.{MAX_PART_WORK};
-ghost use Rattle.pn_live.specs.Copying.{IsOneCopy};
-ghost use Rattle.pn_live.specs.Counting.{IsOneCount};
-ghost use Rattle.pn_live.specs.Looks.{IsOneLook, left_by};
-ghost use Rattle.pn_live.specs.Published.{seen_by, told_to, range_of, found_by};
-ghost use Rattle.pn_live.specs.TabletReaders.{Finds, Learns};
+ghost use Rattle.pn_scan.specs.declared.walk.TheConstants.{MAX_PART_WORK};
+ghost use Rattle.pn_live.specs.Lookups.{IsOneCopy, IsOneCount};
+ghost use Rattle.pn_live.specs.Readers.{IsOneLook, left_by, Finds, Learns};
+ghost use Rattle.pn_live.specs.Published.{seen_by, learnt_by, range_of, found_by};
 
 use crate::front::TabletNote;
 use crate::read_guard::ReadGuard;
@@ -28,40 +26,40 @@ pub struct TabletReader {
 }
 
 impl Model for TabletReader {
-    ghost use Rattle.pn_live.specs.Published.{seen_by, told_to, range_of};
-    ghost use Rattle.pn_live.specs.TabletReaders.{TabletReaderValue};
+    ghost use Rattle.pn_live.specs.Published.{seen_by, learnt_by, range_of};
+    ghost use Rattle.pn_live.specs.Readers.{TabletReaderValue};
 
     ghost Value = { TabletReaderValue };
 
-    ghost use Rattle.pn_live.specs.Proofs.Coding.{tablet_reader_code};
+    ghost use Rattle.pn_live.specs.Proofs.{tablet_reader_code};
 
     ghost coded = { tablet_reader_code };
 
     ghost view = { λ reader. record {
-      book = reader.handle.told.seen.book;
+      book = reader.handle.learnt.seen.book;
       range = range_of reader.handle;
       seen = seen_by reader.handle;
-      told = told_to reader.handle;
+      learnt = learnt_by reader.handle;
     } };
 }
 
 impl TabletReader {
     /// A reader of the tablet of this handle.
     pub fn of(handle: ReaderHandle) -> TabletReader
-        ensures book { result.book ≡ handle.told.seen.book }
+        ensures book { result.book ≡ handle.learnt.seen.book }
         ensures range { result.range ≡ range_of handle }
         ensures seen { result.seen ≡ seen_by handle }
-        ensures told { result.told ≡ told_to handle }
+        ensures learnt { result.learnt ≡ learnt_by handle }
     {
         TabletReader { handle }
     }
 
     /// The handle that the reader looks by.
     pub fn into_handle(self) -> ReaderHandle
-        ensures book { result.told.seen.book ≡ self.book }
+        ensures book { result.learnt.seen.book ≡ self.book }
         ensures range { range_of result ≡ self.range }
         ensures seen { seen_by result ≡ self.seen }
-        ensures told { told_to result ≡ self.told }
+        ensures learnt { learnt_by result ≡ self.learnt }
     {
         let TabletReader { handle } = self;
         handle
@@ -119,7 +117,7 @@ impl TabletReader {
     /// the entry is refused. The entry does the budget's work at most, or looks at one content.
     pub fn part(&mut self, tablet: usize, query: &Query, room: usize, budget: Budget) -> PartResult
         ensures look { (found : Option TabletStateValue) × IsOneLook self.old self.new (part_at query.now) result (rows_at query.now room) tablet found }
-        ensures few { IfOk result (λ part. looked_in (max budget.work MAX_PART_WORK) part ≤ max budget.work MAX_PART_WORK) }
+        ensures few { IfOk result (λ part. spent_in (max budget.work MAX_PART_WORK) part ≤ max budget.work MAX_PART_WORK) }
     {
         replace_with(
             self,
@@ -136,7 +134,7 @@ impl TabletReader {
         budget: Budget,
     ) -> (TabletReader, PartResult)
         ensures look { (found : Option TabletStateValue) × IsOneLook self result.0 (part_at query.now) result.1 (rows_at query.now room) tablet found }
-        ensures few { IfOk result.1 (λ part. looked_in (max budget.work MAX_PART_WORK) part ≤ max budget.work MAX_PART_WORK) }
+        ensures few { IfOk result.1 (λ part. spent_in (max budget.work MAX_PART_WORK) part ≤ max budget.work MAX_PART_WORK) }
     {
         match self.enter() {
             Ok(guard) => {

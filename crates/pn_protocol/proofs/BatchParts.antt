@@ -3,27 +3,24 @@ use Rattle.std.proofs.Common.{◌≡◌, ℕ, List, [], ◌∷◌, length, codes
 use Rattle.std.specs.Option.{ok_or}
 use Rattle.serde_json.specs.Data.{Data, null, boolean, number, string, array, object, Items, no_items, item, Members}
 use Rattle.serde_json.specs.Find.{get, get_member, as_str, as_array, as_object}
-use Rattle.pn_join.specs.Naming.{is_name}
-use Rattle.pn_json.specs.Members.{whole_number, member_as, each_in}
-use Rattle.pn_json.proofs.Inverses.{bind_ok, guard_ok, object_from_as_object, ok_or_ok}
+use Rattle.pn_join.specs.Marks.{is_name}
+use Rattle.pn_json.specs.Members.{whole_number, member_as, each_in, text_at}
+use Rattle.pn_json.proofs.LookUps.{bind_ok, guard_ok, object_from_as_object, ok_or_ok}
 use Rattle.pn_record.specs.Grammar.{shape_in, ranges_in, image_in}
-use Rattle.pn_json.specs.Members.{text_at}
-use Rattle.pn_record.specs.declared.image.Image.{Image}
+use Rattle.pn_record.specs.declared.records.Image.{Image}
 use Rattle.pn_record.proofs.ImageParts.{is_there}
-use Rattle.pn_stream.specs.Positions.{DeliveryValue, are_positions}
-use Rattle.pn_protocol.specs.Command.Deliveries.{batch_in, deliver_at, deliver_in, number_at, items_at}
-use Rattle.pn_protocol.specs.Command.Limits.{are_few}
+use Rattle.pn_stream.specs.Brokers.{DeliveryValue, are_positions}
+use Rattle.pn_protocol.specs.Command.Lines.{batch_in, deliver_at, deliver_in, number_at, items_at}
+use Rattle.pn_protocol.specs.Command.Meaning.{are_few, deliver}
 use Rattle.pn_protocol.specs.declared.command.ranges.TheConstants.{MAX_BATCHES}
-use Rattle.pn_protocol.specs.Command.Meaning.{deliver}
-use Rattle.pn_protocol.specs.Command.RangeChecks.{fits, each_fits, image_fits, batch_fits, batches_fit}
-use Rattle.pn_protocol.specs.Command.ShapeChecks.{named_alone, image_shape, batch_shape}
+use Rattle.pn_protocol.specs.Command.Checks.{fits, each_fits, image_fits, batch_fits, batches_fit, named_alone, image_shape, batch_shape}
 use Rattle.pn_protocol.specs.Command.Words.{members_of}
 use Rattle.pn_protocol.specs.declared.command.word.CommandWord.TheVariants.{Deliver}
-use Rattle.pn_protocol.specs.declared.refusal.Part.TheVariants.{Whole, Batches, First, Images, Stream}
+use Rattle.pn_protocol.specs.declared.refusal.MemberName.TheVariants.{Whole, Batches, First, Images, Stream}
 use Rattle.pn_protocol.specs.declared.refusal.Refusal.{Refusal}
 use Rattle.pn_protocol.specs.declared.refusal.Refusal.TheVariants.{BadShape, OutOfRange}
 use Rattle.pn_protocol.proofs.CommandParts.{object_of}
-use Rattle.pn_protocol.proofs.EachFits.{both_fit, as_ok}
+use Rattle.pn_protocol.proofs.CommandLimits.{both_fit, as_ok}
 
 -- nothing is found in a value that is no object
 pub nothing_in : (q : List ℕ) (d : Data) → as_object d ≡ None → get q d ≡ None

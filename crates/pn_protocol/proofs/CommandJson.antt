@@ -7,37 +7,27 @@ use Rattle.serde_json.specs.Find.{get_member, as_str, as_array, as_object}
 use Rattle.serde_json.specs.View.{items_of}
 use Rattle.pn_json.specs.Members.{whole_number, member_as, each_in, only_named}
 use Rattle.pn_record.specs.Limits.{is_key}
-use Rattle.pn_json.proofs.Inverses.{bind_ok}
+use Rattle.pn_json.proofs.LookUps.{bind_ok, Rise, SameAt, same_by_name}
 use Rattle.std.proofs.lemmas.Bool.{and_parts}
 use Rattle.pn_scan.proofs.SameQuery.{query_again}
 use Rattle.pn_scan.specs.Queries.{QueryValue}
 use Rattle.pn_record.specs.Sets.{Stamp}
-use Rattle.pn_json.proofs.LookUps.{Rise}
 use Rattle.pn_join.specs.Marks.{Positions}
-use Rattle.pn_protocol.specs.Command.Json.{delivery_data, tablet_member, adopt_command, copy_command, deliver_command, notices_command, read_command, scan_command}
-use Rattle.pn_protocol.specs.Command.Grammar.{IsRequired, Says, IsCommand}
-use Rattle.pn_protocol.specs.Command.Deliveries.{deliver_in}
-use Rattle.pn_protocol.specs.Command.Lookups.{get_in, notices_in, read_in, scan_in}
-use Rattle.pn_protocol.specs.Command.Objects.{alone_in, command_as, allowed_in, command_in}
-use Rattle.pn_protocol.specs.Command.Limits.{may_announce, may_be_asked, may_be_required, is_delivery, is_command}
-use Rattle.pn_protocol.specs.Command.Meaning.{CommandValue, adopt, copy, deliver, lose, marks, notices, read, relayout, scan, tablets}
+use Rattle.pn_protocol.specs.Command.Grammar.{delivery_data, tablet_member, adopt_command, copy_command, deliver_command, notices_command, read_command, scan_command, IsRequired, Says, IsCommand}
+use Rattle.pn_protocol.specs.Command.Lines.{deliver_in, alone_in, command_as, allowed_in, command_in}
+use Rattle.pn_protocol.specs.Command.Lookups.{get_in, notices_in, read_in, scan_in, query_at, query_shape, fitting_query}
+use Rattle.pn_protocol.specs.Command.Meaning.{may_announce, may_be_asked, may_be_required, is_delivery, is_command, CommandValue, adopt, copy, deliver, lose, marks, notices, read, relayout, scan, tablets}
 use Rattle.pn_protocol.specs.Command.Meaning as meaning
-use Rattle.pn_protocol.specs.Command.Needs.{need_at, need_shape}
-use Rattle.pn_protocol.specs.Command.Tablets.{adopt_in, copy_in, lose_in, relayout_in}
-use Rattle.pn_protocol.specs.Command.Queries.{query_at, query_shape, fitting_query}
-use Rattle.pn_protocol.specs.Command.RangeChecks.{fits, batches_fit, bounds_fit, keys_fit, fitting_version}
-use Rattle.pn_protocol.specs.Command.ShapeChecks.{named_alone, number_alone, keys_alone, batch_shape, key_shape, version_shape}
+use Rattle.pn_protocol.specs.Command.Tablets.{need_at, need_shape, adopt_in, copy_in, lose_in, relayout_in}
+use Rattle.pn_protocol.specs.Command.Checks.{fits, batches_fit, bounds_fit, keys_fit, fitting_version, named_alone, number_alone, keys_alone, batch_shape, key_shape, version_shape}
 use Rattle.pn_protocol.specs.Command.Words.{members_of, word_in}
 use Rattle.pn_protocol.specs.declared.command.word.CommandWord.{CommandWord}
 use Rattle.pn_protocol.specs.declared.command.word.CommandWord.TheVariants.{Adopt, Copy, Deliver, Get, Lose, Marks, Notices, Read, Relayout, Scan, Tablets}
-use Rattle.pn_protocol.specs.declared.refusal.Part.{Part}
-use Rattle.pn_protocol.specs.declared.refusal.Part.TheVariants.{Whole, Do, Batches, Bounds, Key, Keys, Lines, Since, Tablet}
+use Rattle.pn_protocol.specs.declared.refusal.MemberName.{MemberName}
+use Rattle.pn_protocol.specs.declared.refusal.MemberName.TheVariants.{Whole, Do, Batches, Bounds, Key, Keys, Lines, Since, Tablet}
 use Rattle.pn_protocol.specs.declared.refusal.Refusal.TheVariants.{BadShape}
-use Rattle.pn_protocol.proofs.CommandNeeds.{need_found, need_again}
-use Rattle.pn_protocol.proofs.CommandLimits.{fits_true, deliver_members, deliveries_kept, deliveries_again, bounds_kept, bounds_again, keys_kept, keys_again, read_kept, version_again}
-use Rattle.pn_protocol.proofs.EachFits.{as_ok}
-use Rattle.pn_json.proofs.MembersByName.{SameAt, same_by_name}
-use Rattle.pn_record.proofs.ReadInOrder.{InOrder}
+use Rattle.pn_protocol.proofs.CommandLimits.{need_found, need_again, fits_true, deliver_members, deliveries_kept, deliveries_again, bounds_kept, bounds_again, keys_kept, keys_again, read_kept, version_again, as_ok}
+use Rattle.pn_record.proofs.ReadImages.{InOrder}
 use Rattle.pn_protocol.proofs.CommandParts.{text_at, number_at, array_at, object_of, are_named, rises, in_order, each_found, each_again, each_kept_again, array_in_order, batch_found, batch_again, text_of, word_at, key_found, key_again, after_key, version_required, query_there}
 
 -- what the members of a word's object say
@@ -51,25 +41,25 @@ module _ (ms : Members) (order : InOrder (object ms)) where
   named_object names ns named rise also same = ap object (same_by_name names ms ns (rises (object ms) ms refl order) rise (are_named names ms named) also same)
 
   -- the number of a command, and the names of its members
-  pub number_parts : (name : List ℕ) (names : List (List ℕ)) (part : Part) (n : ℕ) → number_alone name names part ms ≡ Ok n
+  pub number_parts : (name : List ℕ) (names : List (List ℕ)) (member_name : MemberName) (n : ℕ) → number_alone name names member_name ms ≡ Ok n
       → (get_member name ms ≡ Some (number (unsigned n))) × (named_alone names ms ≡ Ok tt)
-  number_parts name names part n is =
-      let value = bind_ok (member_as whole_number (BadShape part) (get_member name ms)) _ n is in
+  number_parts name names member_name n is =
+      let value = bind_ok (member_as whole_number (BadShape member_name) (get_member name ms)) _ n is in
       let named = bind_ok (named_alone names ms) _ n value.2 in
       let same : value.0 ≡ n = cc in
-      (number_at part _ value.0 value.1 ∙ ap (λ m. Some (number (unsigned m))) same, named.1)
+      (number_at member_name _ value.0 value.1 ∙ ap (λ m. Some (number (unsigned m))) same, named.1)
 
   -- the keys of a command, and the names of its members
-  keys_parts : (name : List ℕ) (names : List (List ℕ)) (part : Part) (keys : List (List ℕ)) → keys_alone name names part ms ≡ Ok keys
+  keys_parts : (name : List ℕ) (names : List (List ℕ)) (member_name : MemberName) (keys : List (List ℕ)) → keys_alone name names member_name ms ≡ Ok keys
       → (get_member name ms ≡ Some (array (items_of (map string keys)))) × (named_alone names ms ≡ Ok tt)
-  keys_parts name names part keys is =
-      let items = bind_ok (member_as as_array (BadShape part) (get_member name ms)) _ keys is in
-      let texts = bind_ok (each_in (key_shape part) items.0) _ keys items.2 in
+  keys_parts name names member_name keys is =
+      let items = bind_ok (member_as as_array (BadShape member_name) (get_member name ms)) _ keys is in
+      let texts = bind_ok (each_in (key_shape member_name) items.0) _ keys items.2 in
       let named = bind_ok (named_alone names ms) _ keys texts.2 in
       let same : texts.0 ≡ keys = cc in
-      let there = array_at part _ items.0 items.1 in
+      let there = array_at member_name _ items.0 items.1 in
       let inside = array_in_order name ms items.0 (in_order (object ms) ms refl order) there in (
-        there ∙ ap (λ ds. Some (array ds)) (each_found (key_shape part) string (key_found part) items.0 texts.0 inside texts.1)
+        there ∙ ap (λ ds. Some (array ds)) (each_found (key_shape member_name) string (key_found member_name) items.0 texts.0 inside texts.1)
             ∙ ap (λ (texts : List (List ℕ)). Some (array (items_of (map string texts)))) same,
         named.1,
       )

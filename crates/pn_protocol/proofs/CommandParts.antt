@@ -1,4 +1,4 @@
--- What the parts of a command are read of, and what is read of them.
+-- What the members of a command are read of, and what is read of them.
 use Rattle.std.proofs.Common.{◌≡◌, inl, inr, ℕ, List, [], ◌∷◌, length, map, codes, Bool, true, false, ◌&&◌, cond, Option, Some, None, option_map, Result, Ok, IsTrue, bytes_eq, refl, sym, ap, ◌∙◌, subst}
 use Rattle.std.proofs.lemmas.Bool.{and_parts}
 use Rattle.std.proofs.lemmas.Slice.Eq.{bytes_eq-Decides}
@@ -8,52 +8,47 @@ use Rattle.serde_json.specs.Data.{Data, null, boolean, number, string, array, ob
 use Rattle.serde_json.specs.Find.{get_member, as_str, as_array, as_object}
 use Rattle.serde_json.specs.View.{items_of}
 use Rattle.pn_json.specs.Members.{whole_number, member_as, each_in, only_named}
-use Rattle.pn_join.specs.Naming.{is_name}
-use Rattle.pn_record.specs.Canonical.{is_image}
+use Rattle.pn_join.specs.Marks.{is_name}
+use Rattle.pn_record.specs.Reading.{is_image}
 use Rattle.pn_record.specs.Grammar.{numbers_in, shape_in}
 use Rattle.pn_record.specs.Writing.{image_data}
-use Rattle.pn_record.specs.declared.image.Image.{Image}
-use Rattle.pn_json.proofs.Inverses.{bind_ok, guard_ok, map_some, ok_or_ok, and_then_some, string_from_as_str, array_from_as_array, object_from_as_object, number_from_whole}
-use Rattle.pn_record.proofs.Inverses.{version_from_numbers}
+use Rattle.pn_record.specs.declared.records.Image.{Image}
+use Rattle.pn_json.proofs.LookUps.{bind_ok, guard_ok, map_some, ok_or_ok, and_then_some, string_from_as_str, array_from_as_array, object_from_as_object, number_from_whole, Rise, same_by_name}
+use Rattle.pn_record.proofs.ShapeParts.{version_from_numbers}
 use Rattle.pn_scan.proofs.SameQuery.{query_found}
 use Rattle.pn_scan.specs.Queries.{QueryValue, is_query}
 use Rattle.pn_scan.specs.QueryReading.{shape_in as query_shape_in}
 use Rattle.pn_record.specs.Sets.{Stamp}
-use Rattle.pn_json.proofs.LookUps.{Rise}
-use Rattle.pn_record.proofs.ReadImages.{shape_in_order}
+use Rattle.pn_record.proofs.ReadImages.{shape_in_order, InOrder, ItemsInOrder, MembersInOrder, in_order-at}
 use Rattle.pn_record.proofs.SameImage.{shape_again}
-use Rattle.pn_stream.specs.Positions.{DeliveryValue, are_positions}
-use Rattle.pn_protocol.specs.Command.Json.{delivery_data}
-use Rattle.pn_protocol.specs.Command.Grammar.{IsRequired}
-use Rattle.pn_protocol.specs.Command.Limits.{is_delivery}
-use Rattle.pn_protocol.specs.Command.Queries.{query_at}
-use Rattle.pn_protocol.specs.Command.ShapeChecks.{named_alone, image_shape, batch_shape, key_shape, required_in, version_shape}
+use Rattle.pn_stream.specs.Brokers.{DeliveryValue, are_positions}
+use Rattle.pn_protocol.specs.Command.Grammar.{delivery_data, IsRequired}
+use Rattle.pn_protocol.specs.Command.Meaning.{is_delivery}
+use Rattle.pn_protocol.specs.Command.Lookups.{query_at}
+use Rattle.pn_protocol.specs.Command.Checks.{named_alone, image_shape, batch_shape, key_shape, required_in, version_shape}
 use Rattle.pn_protocol.specs.Command.Words.{word_of, word_in}
 use Rattle.pn_protocol.specs.declared.command.word.CommandWord.{CommandWord}
 use Rattle.pn_protocol.specs.declared.command.word.CommandWord.TheVariants.{Adopt, Copy, Deliver, Get, Lose, Marks, Notices, Read, Relayout, Scan, Tablets}
-use Rattle.pn_protocol.specs.declared.refusal.Part.{Part}
-use Rattle.pn_protocol.specs.declared.refusal.Part.TheVariants.{Do, Batches, First, Images, Stream, Version, Other}
+use Rattle.pn_protocol.specs.declared.refusal.MemberName.{MemberName}
+use Rattle.pn_protocol.specs.declared.refusal.MemberName.TheVariants.{Do, Batches, First, Images, Stream, Version, Other}
 use Rattle.pn_protocol.specs.declared.refusal.Refusal.{Refusal}
 use Rattle.pn_protocol.specs.declared.refusal.Refusal.TheVariants.{BadShape}
-use Rattle.pn_protocol.proofs.CommandLimits.{delivery_members}
-use Rattle.pn_protocol.proofs.EachFits.{as_ok}
-use Rattle.pn_json.proofs.MembersByName.{same_by_name}
-use Rattle.pn_record.proofs.ReadInOrder.{InOrder, ItemsInOrder, MembersInOrder, in_order-at}
+use Rattle.pn_protocol.proofs.CommandLimits.{delivery_members, as_ok}
 
 -- the value at a name, from what was found there
-pub text_at : (part : Part) (o : Option Data) (text : List ℕ) → member_as as_str (BadShape part) o ≡ Ok text → o ≡ Some (string text)
-text_at part o text is =
-    let found = and_then_some o as_str text (ok_or_ok _ (BadShape part) text is) in
+pub text_at : (member_name : MemberName) (o : Option Data) (text : List ℕ) → member_as as_str (BadShape member_name) o ≡ Ok text → o ≡ Some (string text)
+text_at member_name o text is =
+    let found = and_then_some o as_str text (ok_or_ok _ (BadShape member_name) text is) in
     found.1 ∙ ap Some (string_from_as_str found.0 text found.2)
 
-pub number_at : (part : Part) (o : Option Data) (n : ℕ) → member_as whole_number (BadShape part) o ≡ Ok n → o ≡ Some (number (unsigned n))
-number_at part o n is =
-    let found = and_then_some o whole_number n (ok_or_ok _ (BadShape part) n is) in
+pub number_at : (member_name : MemberName) (o : Option Data) (n : ℕ) → member_as whole_number (BadShape member_name) o ≡ Ok n → o ≡ Some (number (unsigned n))
+number_at member_name o n is =
+    let found = and_then_some o whole_number n (ok_or_ok _ (BadShape member_name) n is) in
     found.1 ∙ ap Some (number_from_whole found.0 n found.2)
 
-pub array_at : (part : Part) (o : Option Data) (ds : Items) → member_as as_array (BadShape part) o ≡ Ok ds → o ≡ Some (array ds)
-array_at part o ds is =
-    let found = and_then_some o as_array ds (ok_or_ok _ (BadShape part) ds is) in
+pub array_at : (member_name : MemberName) (o : Option Data) (ds : Items) → member_as as_array (BadShape member_name) o ≡ Ok ds → o ≡ Some (array ds)
+array_at member_name o ds is =
+    let found = and_then_some o as_array ds (ok_or_ok _ (BadShape member_name) ds is) in
     found.1 ∙ ap Some (array_from_as_array found.0 ds found.2)
 
 pub object_of : (d : Data) (e : Refusal) (ms : Members) → ok_or (as_object d) e ≡ Ok ms → d ≡ object ms
@@ -165,11 +160,11 @@ word_at o word is =
     let text = and_then_some (as_str found.0) word_of word found.2 in
     found.1 ∙ ap Some (string_from_as_str found.0 text.0 text.1 ∙ ap string (text_from_word text.0 word text.2))
 
-pub key_found : (part : Part) (d : Data) (key : List ℕ) → InOrder d → key_shape part d ≡ Ok key → d ≡ string key
-key_found part d key order is = string_from_as_str d key (ok_or_ok (as_str d) (BadShape part) key is)
+pub key_found : (member_name : MemberName) (d : Data) (key : List ℕ) → InOrder d → key_shape member_name d ≡ Ok key → d ≡ string key
+key_found member_name d key order is = string_from_as_str d key (ok_or_ok (as_str d) (BadShape member_name) key is)
 
-pub key_again : (part : Part) (key : List ℕ) → key_shape part (string key) ≡ Ok key
-key_again part key = refl
+pub key_again : (member_name : MemberName) (key : List ℕ) → key_shape member_name (string key) ≡ Ok key
+key_again member_name key = refl
 
 -- the member after a key: `version`, if it is there
 abbrev pub after_key : Option Data → Members

@@ -7,25 +7,21 @@ use Rattle.serde_json.specs.Data.{Data, null, boolean, number, string, array, ob
 use Rattle.serde_json.specs.Find.{get, get_member, as_str, as_object}
 use Rattle.pn_json.specs.Answers.{◌>>=◌}
 use Rattle.pn_json.specs.Members.{whole_number, member_as}
-use Rattle.pn_json.proofs.Inverses.{bind_ok, ok_or_ok, and_then_some, string_from_as_str, number_from_whole}
-use Rattle.pn_record.proofs.ReadInOrder.{InOrder}
-use Rattle.pn_protocol.specs.Command.ControlGrammar.{AreSeconds, waiting_command, stop_command, SaysControl, is_shared, is_control, IsControl}
-use Rattle.pn_protocol.specs.Command.Controls.{ControlValue, script, notices, advance, stats, stop, control_members, control_word_of, control_word_in, are_seconds, may_adopt, seconds_in, seconds_at, alone_as, adoption_in, waiting_in, stop_in, script_as, control_as, control_in}
-use Rattle.pn_protocol.specs.Command.Grammar.{Says}
-use Rattle.pn_protocol.specs.Command.Json.{adopt_command, copy_command}
-use Rattle.pn_protocol.specs.Command.Limits.{may_be_asked, is_command}
-use Rattle.pn_protocol.specs.Command.Meaning.{CommandValue, adopt, copy, deliver, lose, marks, read, relayout, scan, tablets}
+use Rattle.pn_json.proofs.LookUps.{bind_ok, ok_or_ok, and_then_some, string_from_as_str, number_from_whole}
+use Rattle.pn_record.proofs.ReadImages.{InOrder}
+use Rattle.pn_protocol.specs.Command.Controls.{AreSeconds, waiting_command, stop_command, SaysControl, is_shared, is_control, IsControl, ControlValue, script, notices, advance, stats, stop, control_members, control_word_of, control_word_in, are_seconds, may_adopt, seconds_in, seconds_at, alone_as, adoption_in, waiting_in, stop_in, script_as, control_as, control_in}
+use Rattle.pn_protocol.specs.Command.Grammar.{Says, adopt_command, copy_command}
+use Rattle.pn_protocol.specs.Command.Meaning.{may_be_asked, is_command, CommandValue, adopt, copy, deliver, lose, marks, read, relayout, scan, tablets}
 use Rattle.pn_protocol.specs.Command.Meaning as meaning
-use Rattle.pn_protocol.specs.Command.Objects.{allowed_word, allowed_in, command_in}
-use Rattle.pn_protocol.specs.Command.RangeChecks.{fits}
-use Rattle.pn_protocol.specs.Command.ShapeChecks.{named_alone, number_alone}
+use Rattle.pn_protocol.specs.Command.Lines.{allowed_word, allowed_in, command_in}
+use Rattle.pn_protocol.specs.Command.Checks.{fits, named_alone, number_alone}
 use Rattle.pn_protocol.specs.Command.Words.{word_in}
 use Rattle.pn_protocol.specs.declared.command.control.ControlWord.{ControlWord}
 use Rattle.pn_protocol.specs.declared.command.control.ControlWord.TheVariants.{Adopt, Advance, Notices, Stats, Stop}
 use Rattle.pn_protocol.specs.declared.command.control.TheConstants.{STOP_SECONDS}
 use Rattle.pn_protocol.specs.declared.command.parse.AllowedCommands.TheVariants.{Controls}
-use Rattle.pn_protocol.specs.declared.refusal.Part.{Part}
-use Rattle.pn_protocol.specs.declared.refusal.Part.TheVariants.{Whole, Do, Lines, Seconds, Since, Wait}
+use Rattle.pn_protocol.specs.declared.refusal.MemberName.{MemberName}
+use Rattle.pn_protocol.specs.declared.refusal.MemberName.TheVariants.{Whole, Do, Lines, Seconds, Since, Wait}
 use Rattle.pn_protocol.specs.declared.refusal.Refusal.{Refusal}
 use Rattle.pn_protocol.specs.declared.refusal.Refusal.TheVariants.{BadShape, ReadOnly}
 use Rattle.pn_protocol.proofs.CommandJson.{named_object, number_parts, command_found, command_again}
@@ -59,26 +55,26 @@ word_at o word is =
 usual_seconds : (o : Option Data) (usual seconds : ℕ) → (seconds ≡ usual → AreSeconds usual o seconds) → ◌≡◌ {A = Result ℕ Refusal} (Ok usual) (Ok seconds) → AreSeconds usual o seconds
 usual_seconds o usual seconds so is = so (cc)
 
-number_said : (d : Data) (usual : ℕ) (part : Part) (seconds : ℕ) → ok_or (whole_number d) (BadShape part) ≡ Ok seconds → AreSeconds usual (Some d) seconds
-number_said d usual part seconds is = inr (number_from_whole d seconds (ok_or_ok (whole_number d) (BadShape part) seconds is))
+number_said : (d : Data) (usual : ℕ) (member_name : MemberName) (seconds : ℕ) → ok_or (whole_number d) (BadShape member_name) ≡ Ok seconds → AreSeconds usual (Some d) seconds
+number_said d usual member_name seconds is = inr (number_from_whole d seconds (ok_or_ok (whole_number d) (BadShape member_name) seconds is))
 
-seconds_said : (d : Data) (usual : ℕ) (part : Part) (seconds : ℕ) → seconds_in usual part d ≡ Ok seconds → AreSeconds usual (Some d) seconds
-seconds_said null usual part seconds is = usual_seconds (Some null) usual seconds (λ same. inl (refl, same)) is
-seconds_said (boolean b) usual part seconds is = number_said (boolean b) usual part seconds is
-seconds_said (number n) usual part seconds is = number_said (number n) usual part seconds is
-seconds_said (string s) usual part seconds is = number_said (string s) usual part seconds is
-seconds_said (array ds) usual part seconds is = number_said (array ds) usual part seconds is
-seconds_said (object ms) usual part seconds is = number_said (object ms) usual part seconds is
+seconds_said : (d : Data) (usual : ℕ) (member_name : MemberName) (seconds : ℕ) → seconds_in usual member_name d ≡ Ok seconds → AreSeconds usual (Some d) seconds
+seconds_said null usual member_name seconds is = usual_seconds (Some null) usual seconds (λ same. inl (refl, same)) is
+seconds_said (boolean b) usual member_name seconds is = number_said (boolean b) usual member_name seconds is
+seconds_said (number n) usual member_name seconds is = number_said (number n) usual member_name seconds is
+seconds_said (string s) usual member_name seconds is = number_said (string s) usual member_name seconds is
+seconds_said (array ds) usual member_name seconds is = number_said (array ds) usual member_name seconds is
+seconds_said (object ms) usual member_name seconds is = number_said (object ms) usual member_name seconds is
 
-seconds_found : (o : Option Data) (usual : ℕ) (part : Part) (seconds : ℕ) → seconds_at usual part o ≡ Ok seconds → AreSeconds usual o seconds
-seconds_found None usual part seconds is = usual_seconds None usual seconds (λ same. same) is
-seconds_found (Some d) usual part seconds is = seconds_said d usual part seconds is
+seconds_found : (o : Option Data) (usual : ℕ) (member_name : MemberName) (seconds : ℕ) → seconds_at usual member_name o ≡ Ok seconds → AreSeconds usual o seconds
+seconds_found None usual member_name seconds is = usual_seconds None usual seconds (λ same. same) is
+seconds_found (Some d) usual member_name seconds is = seconds_said d usual member_name seconds is
 
 -- the seconds of a member are read of it
-seconds_again : (o : Option Data) (usual : ℕ) (part : Part) (seconds : ℕ) → AreSeconds usual o seconds → seconds_at usual part o ≡ Ok seconds
-seconds_again None usual part seconds same = ap Ok (sym same)
-seconds_again (Some d) usual part seconds (inl (absent, same)) = ap (seconds_in usual part) absent ∙ ap Ok (sym same)
-seconds_again (Some d) usual part seconds (inr says) = ap (seconds_in usual part) says
+seconds_again : (o : Option Data) (usual : ℕ) (member_name : MemberName) (seconds : ℕ) → AreSeconds usual o seconds → seconds_at usual member_name o ≡ Ok seconds
+seconds_again None usual member_name seconds same = ap Ok (sym same)
+seconds_again (Some d) usual member_name seconds (inl (absent, same)) = ap (seconds_in usual member_name) absent ∙ ap Ok (sym same)
+seconds_again (Some d) usual member_name seconds (inr says) = ap (seconds_in usual member_name) says
 
 -- what the members of a word's object say
 module _ (ms : Members) (order : InOrder (object ms)) where

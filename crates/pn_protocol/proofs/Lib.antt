@@ -2,14 +2,7 @@ pub mod BatchParts
 pub mod CommandJson
 pub mod CommandLimits
 pub mod CommandLines
-pub mod CommandNeeds
 pub mod CommandParts
 pub mod ControlJson
-pub mod ControlLines
-pub mod EachFits
 pub mod MadeReplies
 pub mod MadeRows
-pub mod ReadLines
-pub mod Refusals
-pub mod ShownRecords
-pub mod Walks

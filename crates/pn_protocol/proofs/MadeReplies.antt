@@ -1,31 +1,81 @@
--- The texts of replies: what they begin with, and the rows or the lines after that.
-use Rattle.std.proofs.Common.{◌≡◌, ◌≢◌, ℕ, ◌+◌, ◌<◌, ◌≤◌, inl, inr, Bool, true, false, List, [], ◌∷◌, ◌++◌, map, length, take, drop, zip, Option, Some, codes, refl, sym, ap, ◌∙◌, subst, append_assoc, arith, length-append, length-drop, drop-drop, ◌-◌}
+-- The texts of replies: what they begin with, the records that they show, and refusals.
+use Rattle.std.proofs.Common.{◌≡◌, ℕ, zero, suc, ◌+◌, ◌<◌, ◌≤◌, List, [], ◌∷◌, length, take, zip, Some, None, refl, sym, ap, ◌∙◌, arith, ◌-◌, ◌≢◌, inl, inr, Bool, true, false, ◌++◌, map, drop, Option, codes, subst, append_assoc, length-append, length-drop, drop-drop, Result, Ok, Err}
 use Rattle.std.specs.Prelude.{◌↔◌, IsTrue, Vec, min}
+use Rattle.std.specs.List.{slice_get, sum_by}
+use Rattle.std.proofs.lemmas.List.Sums.{sum_by-cons, sum_by_more}
+use Rattle.std.proofs.lemmas.Option.{get_or_from_slice_get, slice_get_within}
 use Rattle.std.specs.declared.alloc.Global.{Global}
 use Rattle.std.proofs.lemmas.List.{drop_all, length-take, take-append-drop}
 use Rattle.serde_json.specs.Data.{Data, array}
 use Rattle.serde_json.specs.View.{items_of}
 use Rattle.serde_json.specs.Written.{comma_if, compact_text, items_text}
 use Rattle.serde_json.proofs.OnLiterals.{serde_json_on_literals}
-use Rattle.pn_json.specs.AppendedText.{AppendsText, MakesPiece}
 use Rattle.json.specs.Print.{print}
 use Rattle.json.specs.Written.{Written}
 use Rattle.serde_json.proofs.Texts.{print-outline}
-use Rattle.pn_json.specs.Lines.{line_of}
-use Rattle.pn_json.specs.Tokens.{HasValue}
-use Rattle.pn_record.specs.CellMap.{Entries}
+use Rattle.pn_join.specs.declared.memory.NoMemory.{NoMemory}
+use Rattle.pn_json.specs.Tokens.{AppendsText, MakesPiece, line_of, HasValue}
+use Rattle.pn_record.specs.Cells.{Entries}
 use Rattle.pn_record.specs.Sets.{CellValue}
-use Rattle.pn_scan.specs.Queries.{QueryValue}
 use Rattle.pn_tablet.specs.Copies.{TabletCopyValue}
-use Rattle.pn_tablet.specs.CopyMaking.{CopyTextValue, lines_of_copy}
-use Rattle.pn_tablet.specs.CopyWriting.{copy_text}
+use Rattle.pn_tablet.specs.CopyWriting.{CopyTextValue, lines_of_copy, copy_text}
+use Rattle.pn_scan.specs.Queries.{QueryValue}
 use Rattle.pn_protocol.specs.declared.reply.Reply.TheVariants.{Copy}
 use Rattle.pn_protocol.specs.Reply.Making.{Found, record_data, record_text, rows_text}
-use Rattle.pn_protocol.specs.Reply.Record.{get_data, read_data}
-use Rattle.pn_protocol.specs.Reply.Answers.{ShowsCopy}
-use Rattle.pn_protocol.specs.Reply.Rows.{row_data}
-use Rattle.pn_protocol.specs.Reply.Scan.{head_text, next_data, scan_data}
+use Rattle.pn_protocol.specs.Reply.Records.{get_data, read_data, row_data, head_text, next_data, scan_data}
+use Rattle.pn_protocol.specs.Reply.Texts.{ShowsCopy}
 use Rattle.pn_protocol.specs.Reply.Short.{lines_data}
+use Rattle.pn_protocol.specs.declared.reply.Reply.{Reply}
+use Rattle.pn_protocol.specs.Reply.Faults.{Tells, SaysWhy, RefusesWith}
+
+-- The records that a reply shows, by their indices.
+
+-- a record, or the only one
+pub only_record : {X : Type 0} (x : X) (index : ℕ) → 0 < index → None ≡ slice_get (x ∷ []) index
+only_record x zero some = absurd (omega (arith, some))
+only_record x (suc n) some = refl
+
+pub first_record : {X : Type 0} (x : X) (index : ℕ) → index ≤ 0 → Some x ≡ slice_get (x ∷ []) index
+first_record x zero none = refl
+first_record x (suc n) none = absurd (omega (arith, none))
+
+pub zip_both : {X Y : Type 0} (xs : List X) (ys : List Y) (i : ℕ) (x : X) (y : Y) → slice_get xs i ≡ Some x → slice_get ys i ≡ Some y → slice_get (zip xs ys) i ≡ Some (x, y)
+zip_both [] ys i x y first second = absurd (cc)
+zip_both (z ∷ xs) [] i x y first second = absurd (cc)
+zip_both (z ∷ xs) (w ∷ ys) zero x y first second = cc
+zip_both (z ∷ xs) (w ∷ ys) (suc i) x y first second = zip_both xs ys i x y first second
+
+pub length-zip_le : {X Y : Type 0} (xs : List X) (ys : List Y) → length (zip xs ys) ≤ length xs
+length-zip_le [] ys = omega arith
+length-zip_le (x ∷ xs) [] = omega arith
+length-zip_le (x ∷ xs) (y ∷ ys) = omega (arith, length-zip_le xs ys)
+
+-- past the end of either
+pub zip_past_first : {X Y : Type 0} (xs : List X) (ys : List Y) (i : ℕ) → slice_get xs i ≡ None → slice_get (zip xs ys) i ≡ None
+zip_past_first [] ys i none = refl
+zip_past_first (z ∷ xs) [] i none = refl
+zip_past_first (z ∷ xs) (w ∷ ys) zero none = absurd (cc)
+zip_past_first (z ∷ xs) (w ∷ ys) (suc i) none = zip_past_first xs ys i none
+
+pub zip_past_second : {X Y : Type 0} (xs : List X) (ys : List Y) (i : ℕ) → slice_get ys i ≡ None → slice_get (zip xs ys) i ≡ None
+zip_past_second [] ys i none = refl
+zip_past_second (z ∷ xs) [] i none = refl
+zip_past_second (z ∷ xs) (w ∷ ys) zero none = absurd (cc)
+zip_past_second (z ∷ xs) (w ∷ ys) (suc i) none = zip_past_second xs ys i none
+
+-- one more is weighed, or all are
+pub weighed_more : {X : Type 0} (weigh : X → ℕ) (xs : List X) (i : ℕ) (x : X) → slice_get xs i ≡ Some x → sum_by weigh (take (i + 1) xs) ≡ sum_by weigh (take i xs) + weigh x
+weighed_more {X = X} weigh xs i x here =
+    sum_by_more weigh xs i x (slice_get_within xs i x here) ∙ ap (λ (y : X). sum_by weigh (take i xs) + weigh y) (get_or_from_slice_get xs i x x here)
+
+pub weighed_all : {X : Type 0} (weigh : X → ℕ) (xs : List X) (i : ℕ) → slice_get xs i ≡ None → sum_by weigh (take i xs) ≡ sum_by weigh xs
+weighed_all weigh [] zero none = refl
+weighed_all weigh [] (suc i) none = refl
+weighed_all weigh (x ∷ xs) zero none = absurd (cc)
+weighed_all weigh (x ∷ xs) (suc i) none =
+    sum_by-cons weigh x (take i xs) ∙ ap (λ n. weigh x + n) (weighed_all weigh xs i none) ∙ sym (sum_by-cons weigh x xs)
+
+-- The texts of replies: what they begin with, and the rows or the lines after that.
 
 -- ---- whole replies
 
@@ -113,3 +163,11 @@ page_text rows next =
 -- the text of a copy, after the number of its lines
 pub copy_made : (copy : TabletCopyValue) (text : CopyTextValue) → text.copy ≡ copy → text.left ≡ copy_text copy → ShowsCopy copy (Copy text)
 copy_made copy text same all = inl (refl, λ i. line_of (lines_data (lines_of_copy (same i))) ++ all i)
+
+-- A refusal with the line that says why, or one that memory ran out.
+
+-- it tells why only where the fault is not that memory ran out
+pub told : {F : Type 0} (memory fault : F) (said : Data) (line : Option (Result (Vec ℕ Global) NoMemory)) (reply : Reply) → SaysWhy memory fault said line → RefusesWith line reply → Tells (fault ≢ memory) said reply
+told memory fault said None reply why is = subst (Tells (fault ≢ memory) said) (sym is) refl
+told memory fault said (Some (Ok text)) reply why is = subst (Tells (fault ≢ memory) said) (sym is) why
+told memory fault said (Some (Err failed)) reply why is = subst (Tells (fault ≢ memory) said) (sym is) refl

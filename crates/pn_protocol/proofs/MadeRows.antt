@@ -10,12 +10,11 @@ use Rattle.serde_json.specs.Data.{Data, string, array, object, Items, no_members
 use Rattle.serde_json.specs.View.{items_of}
 use Rattle.serde_json.specs.Written.{comma_if, compact_text, items_text}
 use Rattle.serde_json.proofs.OnLiterals.{serde_json_on_literals}
-use Rattle.pn_json.specs.AppendedText.{AppendsText, MakesPiece}
+use Rattle.pn_json.specs.Tokens.{AppendsText, MakesPiece}
 use Rattle.json.specs.Print.{quoted}
 use Rattle.pn_json.proofs.AppendedTexts.{appended_both, appended_none}
 use Rattle.pn_record.specs.Limits.{ContentValue, is_key}
-use Rattle.pn_record.specs.Sets.{CellValue}
-use Rattle.pn_record.specs.States.{state_of}
+use Rattle.pn_record.specs.Sets.{CellValue, state_of}
 use Rattle.pn_record.specs.Writing.{content_data, version_data}
 use Rattle.pn_record.specs.declared.cell.CellState.{CellState}
 use Rattle.pn_record.specs.declared.cell.CellState.TheVariants.{One, Deleted, Conflict}
@@ -25,7 +24,7 @@ use Rattle.pn_protocol.specs.declared.reply.rows_text.RowsCursor.TheVariants.{Re
 use Rattle.pn_protocol.specs.declared.reply.shown_records.ShownRecords.{ShownRecords}
 use Rattle.pn_protocol.specs.declared.reply.shown_records.ShownRecords.TheVariants as shown
 use Rattle.pn_protocol.specs.Reply.Making.{Found, HasContent, IsCursorOf, MakesRecord, next_cursor, after_part, before_text, end_of, found_in, cursor_rest, record_rest, record_text, rest_from, row_end, rows_text}
-use Rattle.pn_protocol.specs.Reply.Rows.{row_data, state_word}
+use Rattle.pn_protocol.specs.Reply.Records.{row_data, state_word}
 
 -- ---- lengths
 

@@ -1,9 +1,7 @@
 //! The commands that lines say.
 
-mod batch_parts;
 mod build;
 pub(crate) mod control;
-pub(crate) mod kind;
 mod lookups;
 mod members;
 pub(crate) mod parse;

@@ -1,15 +1,15 @@
 //! Why a line was refused.
 
 ghost use Rattle.std.specs.Prelude.{◌≡◌};
-ghost use Rattle.pn_protocol.specs.Reply.Short.{part_word};
+ghost use Rattle.pn_protocol.specs.Reply.Short.{member_word};
 ghost use Rattle.pn_protocol.specs.declared.refusal.Refusal.TheVariants.{Memory};
 
 use pn_join::NoMemory;
 use pn_record::Member;
 
-/// The part of a line that is at fault.
+/// The member of a line that is at fault.
 #[derive(Clone, Copy, Debug, PartialEq, Eq)]
-pub enum Part {
+pub enum MemberName {
     /// The line itself, which is not an object.
     Whole,
     Do,
@@ -30,35 +30,35 @@ pub enum Part {
     Wait,
     /// A member whose name is unknown there.
     Other,
-    /// A part of an image.
+    /// A member of an image.
     Image(Member),
 }
 
-impl Part {
-    /// The part's name in lower case; for a part of an image, its member's name.
+impl MemberName {
+    /// The member's name in lower case; for a member of an image, its own.
     pub fn word(&self) -> &'static str
-        ensures { result.now ≡ part_word self.now }
+        ensures { result.now ≡ member_word self.now }
     {
         match self {
-            Part::Whole => "whole",
-            Part::Do => "do",
-            Part::Batches => "batches",
-            Part::Bounds => "bounds",
-            Part::First => "first",
-            Part::Images => "images",
-            Part::Key => "key",
-            Part::Keys => "keys",
-            Part::Lines => "lines",
-            Part::Need => "need",
-            Part::Stream => "stream",
-            Part::Query => "query",
-            Part::Seconds => "seconds",
-            Part::Since => "since",
-            Part::Tablet => "tablet",
-            Part::Version => "version",
-            Part::Wait => "wait",
-            Part::Other => "other",
-            Part::Image(member) => member.word(),
+            MemberName::Whole => "whole",
+            MemberName::Do => "do",
+            MemberName::Batches => "batches",
+            MemberName::Bounds => "bounds",
+            MemberName::First => "first",
+            MemberName::Images => "images",
+            MemberName::Key => "key",
+            MemberName::Keys => "keys",
+            MemberName::Lines => "lines",
+            MemberName::Need => "need",
+            MemberName::Stream => "stream",
+            MemberName::Query => "query",
+            MemberName::Seconds => "seconds",
+            MemberName::Since => "since",
+            MemberName::Tablet => "tablet",
+            MemberName::Version => "version",
+            MemberName::Wait => "wait",
+            MemberName::Other => "other",
+            MemberName::Image(member) => member.word(),
         }
     }
 }
@@ -70,12 +70,12 @@ pub enum Refusal {
     TooLong,
     /// `serde_json` reads no value in the line.
     NotJson,
-    /// A required part is missing, or a part is of another kind.
-    BadShape(Part),
+    /// A required member is missing, or a member is of another kind.
+    BadShape(MemberName),
     /// A session does not run this command. A script never answers this.
     ReadOnly,
-    /// All parts are of the right kinds, and this one breaks a limit.
-    OutOfRange(Part),
+    /// All members are of the right kinds, and this one breaks a limit.
+    OutOfRange(MemberName),
     /// Out of memory. It may replace any later fault.
     Memory,
 }

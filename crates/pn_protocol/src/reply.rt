@@ -1,24 +1,17 @@
 //! Replies.
 
-ghost use Rattle.pn_protocol.specs.Reply.Pieces.{IsShortFor};
+ghost use Rattle.pn_protocol.specs.Reply.Texts.{IsShortFor};
 
 pub(crate) mod answers;
-mod errors;
 pub(crate) mod line_stats;
-pub(crate) mod notices;
-mod prefetch;
 pub(crate) mod refusals;
-mod rows;
 pub(crate) mod rows_text;
 pub(crate) mod scan;
 pub(crate) mod short;
-mod shown;
 pub(crate) mod shown_records;
 pub(crate) mod stats;
 pub(crate) mod tablets;
 pub(crate) mod text;
-pub(crate) mod time_stats;
-pub(crate) mod unread_stats;
 
 use crate::Refusal;
 use pn_record::{Cell, Key};

@@ -1,24 +1,26 @@
--- Which keys differ once a table is joined to another: those that differ among what is joined.
-use Rattle.std.proofs.Common.{◌≡◌, ◌≢◌, ℕ, Bool, true, false, not, ◌&&◌, cond, List, [], ◌∷◌, map, filter, Option, Some, None, refl, sym, ap, ◌∙◌, subst}
+-- Which keys differ once a table is joined to another, and that no record is older then.
+use Rattle.std.proofs.Common.{◌≡◌, ◌≢◌, ℕ, Bool, true, false, not, ◌&&◌, cond, List, [], ◌∷◌, map, filter, Option, Some, None, refl, sym, ap, ◌∙◌, subst, ◌++◌}
 use Rattle.std.specs.declared.cmp.Ordering.{Ordering}
 use Rattle.std.specs.declared.cmp.Ordering.TheVariants.{Less, Equal, Greater}
 use Rattle.std.specs.Cmp.Lexicographic.{pointwise}
-use Rattle.std.specs.Ordering.{eq_by_cmp, is_eq, is_lt}
+use Rattle.std.specs.Ordering.{eq_by_cmp, is_eq, is_lt, is_gt}
 use Rattle.std.specs.Option.{option_map}
 use Rattle.std.specs.List.{AllByRecursion}
 use Rattle.std.specs.FinMap.{find, is_sorted, keys}
 use Rattle.std.specs.FinMap.Entries.{below_all, same_entries, where_key, find-where_key, is_sorted-where_key}
-use lib.Dec.{T}
 use Rattle.std.proofs.lemmas.Cmp.{nat_list_cmp_total, tied_itself, eq_by_cmp_equiv, lists_equiv}
 use Rattle.std.proofs.lemmas.Map.Lookups.{exact_bytes}
+use lib.Dec.{T}
 use Rattle.pn_join.specs.Tables.{optional_joined}
-use Rattle.pn_record.specs.Order.{bytes_cmp, version_cmp, content_cmp}
-use Rattle.pn_record.specs.Laws.Totals.{version_cmp_total, version_cmp-exact, content_cmp_total}
-use Rattle.pn_record.specs.Laws.Unions.{tied_lists, set_of-keys}
-use Rattle.pn_record.specs.Sets.{CellValue, set_of, cell_joined}
-use Rattle.pn_record.specs.CellMap.{Entries}
-use Rattle.pn_record.specs.SameCells.{same_cell, same_at}
+use Rattle.pn_record.specs.Sets.{bytes_cmp, version_cmp, content_cmp, CellValue, set_of, cell_joined}
+use Rattle.pn_record.specs.Laws.{version_cmp_total, version_cmp-exact, content_cmp_total, tied_lists, set_of-keys, by_versions, joined-less, joined-equal, joined-greater}
+use Rattle.pn_record.specs.Cells.{Entries, table_of, same_cell, same_at, cells, NotOlder}
 use Rattle.pn_record.proofs.Sorted.{both_true, first_true, second_true, is_less}
+use Rattle.pn_record.specs.declared.records.Image.{Image}
+use Rattle.pn_record.proofs.CellLists.{both, cells-append}
+use Rattle.pn_record.proofs.CellMaps.{Holds-table_of}
+
+-- Which keys differ once a table is joined to another: those that differ among what is joined.
 
 same_cell-itself : (a : CellValue) → same_cell a a ≡ true
 same_cell-itself a =
@@ -137,3 +139,22 @@ module _ (old more new : Entries) (rising : is_sorted bytes_cmp new ≡ true) (r
   pub same_chosen : units (chosen old new new) ≡ units (chosen old new more)
   same_chosen = same_entries bytes_cmp nat_list_cmp_total exact_bytes (units (chosen old new new)) (units (chosen old new more)) (sorted-chosen new rising) (sorted-chosen more rises)
       (λ q. find-chosen new q ∙ found (differs old new q) (find bytes_cmp q old) (find bytes_cmp q new) (find bytes_cmp q more) (stays q) (joined q) ∙ sym (find-chosen more q))
+
+-- A record is not older once another cell is joined to it.
+
+not_above : (a b : CellValue) → is_gt (version_cmp a.0 (cell_joined a b).0) ≡ false
+not_above a b = by_versions a.0 b.0
+    (λ e. ap (λ (c : CellValue). is_gt (version_cmp a.0 c.0)) (joined-less a b e) ∙ ap is_gt e)
+    (λ e. ap (λ (c : CellValue). is_gt (version_cmp a.0 c.0)) (joined-equal a b e) ∙ ap is_gt (tied_itself version_cmp_total a.0))
+    (λ e. ap (λ (c : CellValue). is_gt (version_cmp a.0 c.0)) (joined-greater a b e) ∙ ap is_gt (tied_itself version_cmp_total a.0))
+
+pub joined_not_older : (was more : Option CellValue) → NotOlder was (both was more)
+joined_not_older None more = tt
+joined_not_older (Some a) None = ap is_gt (tied_itself version_cmp_total a.0)
+joined_not_older (Some a) (Some b) = not_above a b
+
+-- further images leave no record older
+pub held_not_older : (images more : List Image) (key : List ℕ) → NotOlder (find bytes_cmp key (table_of images)) (find bytes_cmp key (table_of (images ++ more)))
+held_not_older images more key =
+    subst (λ (o : Option CellValue). NotOlder o (find bytes_cmp key (table_of (images ++ more)))) (sym (Holds-table_of images key))
+    (subst (NotOlder (cells images key)) (sym (Holds-table_of (images ++ more) key ∙ cells-append images more key)) (joined_not_older (cells images key) (cells more key)))

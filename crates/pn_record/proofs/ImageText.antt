@@ -1,20 +1,26 @@
--- The text of an image's JSON: it has no float, it is flat, and it is short.
-use Rattle.std.proofs.Common.{◌≡◌, ℕ, suc, ℤ, pos, negsuc, ◌+◌, ◌*◌, ◌^◌, ◌<◌, ◌≤◌, List, [], ◌∷◌, ◌++◌, length, codes, Bool, true, false, ◌&&◌, cond, Option, Some, None, decimal, leb, ltb, refl, arith, length-append}
+-- The text of an image's JSON: it is flat, short and a line of the image, and it is added part by part.
+use Rattle.std.proofs.Common.{◌≡◌, ℕ, suc, ℤ, pos, negsuc, ◌+◌, ◌*◌, ◌^◌, ◌<◌, ◌≤◌, List, [], ◌∷◌, ◌++◌, length, codes, Bool, true, false, ◌&&◌, cond, Option, Some, None, decimal, leb, ltb, refl, arith, length-append, IsUtf8, sym, subst, map, drop, get_or, ap, ◌∙◌, append_assoc}
 use Rattle.std.proofs.lemmas.Bool.{and_parts, leb-true, ltb-true}
 use Rattle.std.proofs.lemmas.List.Sums.{sum_by-cons}
 use Rattle.std.proofs.lemmas.Fmt.{length-decimal-le}
 use Rattle.std.specs.List.{sum_by, list_all}
+use Rattle.std.proofs.lemmas.Str.{is_utf8-from_IsUtf8}
+use Rattle.std.specs.Fmt.{signed_decimal}
+use Rattle.std.proofs.lemmas.List.{drop_more, drop_all}
 use Rattle.json.specs.Print.{escape_byte, escape_letter, escape, quoted}
-use Rattle.serde_json.specs.Data.{string, object, Members, no_members, member, depth, members_depth}
+use Rattle.serde_json.specs.Data.{string, object, Members, no_members, member, depth, members_depth, Data, number}
 use Rattle.serde_json.specs.Find.{of_integer}
 use Rattle.serde_json.specs.Written.{number_text, has_float, members_have_float, compact_text, members_text, comma_if}
-use Rattle.pn_join.specs.Naming.{is_name, is_name_byte}
-use Rattle.pn_record.specs.Bodies.{value_size, field_size, is_body, is_content, fields_fit, names_rise}
-use Rattle.pn_record.specs.Limits.{ContentValue, FieldValue, number_value, text_value, Field, is_number, is_value, is_field, is_key, is_version}
-use Rattle.pn_record.specs.Writing.{value_data, version_data, fields_data, body_data, content_data, image_data}
-use Rattle.pn_record.specs.Canonical.{is_image}
-use Rattle.pn_record.specs.declared.image.Image.{Image}
-use Rattle.pn_record.proofs.Values.{field_value}
+use Rattle.serde_json.specs.Read.{read}
+use Rattle.serde_json.proofs.OnLiterals.{serde_json_on_literals}
+use Rattle.pn_join.specs.Marks.{is_name, is_name_byte}
+use Rattle.pn_record.specs.Limits.{value_size, field_size, is_body, is_content, fields_fit, names_rise, ContentValue, FieldValue, number_value, text_value, Field, is_number, is_value, is_field, is_key, is_version}
+use Rattle.pn_record.specs.Writing.{value_data, version_data, fields_data, body_data, content_data, image_data, body_text}
+use Rattle.pn_record.specs.Reading.{is_image, IsImageLine, reading}
+use Rattle.pn_record.specs.declared.records.Image.{Image}
+use Rattle.pn_record.proofs.ShapeParts.{field_value}
+
+-- The text of an image's JSON: it has no float, it is flat, and it is short.
 
 value_has_no_float : (value : FieldValue) → has_float (value_data value) ≡ false
 value_has_no_float (number_value (pos n)) = refl
@@ -157,3 +163,53 @@ length-content_data content is =
     let rest = member (codes "master") (string content.1) no_members in
     let short : length (members_text true rest) ≤ 1900 = omega (arith, length_member true (codes "master") (quoted content.1) (125 ∷ []), length-quoted content.1, leb-true _ _ long_master.1) in
     omega (arith, length_body content.0 rest two.0 short)
+
+-- The text that is written for an image is a line of it.
+
+pub short_text : (text : List ℕ) (image : Image) → is_image image ≡ true → text ≡ compact_text (image_data image) → length text < 52000
+short_text text image limits is = subst (λ (t : List ℕ). length t < 52000) (sym is) (length-image_data image limits)
+
+reading-read : (text : List ℕ) (d : Data) → IsUtf8 text → read text ≡ Some d → reading text ≡ Some d
+unfolding reading
+reading-read text d utf8 is = rw (is_utf8-from_IsUtf8 text utf8) is
+
+pub written_line : (text : List ℕ) (image : Image) → is_image image ≡ true → IsUtf8 text → text ≡ compact_text (image_data image) → read text ≡ Some (image_data image) → IsImageLine text image
+written_line text image limits utf8 is again =
+    let short = short_text text image limits is in
+    record { short = omega arith; value = image_data image; read = reading-read text _ utf8 again; spelled = record { value = refl; limits = limits } }
+
+-- The texts of contents and images, as they are added part by part.
+
+-- a body, before other members
+body_then : (body : Option (List Field)) (rest : Members) → 123 ∷ (body_text body ++ members_text true rest) ≡ compact_text (object (body_data body rest))
+unfolding serde_json_on_literals
+body_then None rest = refl
+body_then (Some fields) rest = refl
+
+pub content_text : (content : ContentValue) → codes "{" ++ (body_text content.0 ++ (codes ",\"master\":" ++ (quoted content.1 ++ codes "}"))) ≡ compact_text (content_data content)
+unfolding serde_json_on_literals
+content_text content = body_then content.0 (member (codes "master") (string content.1) no_members)
+
+pub image_text : (image : Image)
+    → codes "{" ++ (body_text image.content.0 ++ (codes ",\"key\":" ++ (quoted image.key ++ (codes ",\"master\":" ++ (quoted image.content.1 ++ (codes ",\"version\":" ++ (compact_text (version_data image.version) ++ codes "}")))))))
+    ≡ compact_text (image_data image)
+unfolding serde_json_on_literals
+image_text image = body_then image.content.0 (member (codes "key") (string image.key) (member (codes "master") (string image.content.1) (member (codes "version") (version_data image.version) no_members)))
+
+pub integer_text : (z : ℤ) → signed_decimal z ≡ compact_text (number (of_integer z))
+integer_text (pos n) = refl
+integer_text (negsuc n) = refl
+
+-- one field more
+pub next_field : {X : Type 0} (shown : X → Field) (later : Bool) (fields : List X) (i : ℕ) (field : X) → field ≡ get_or fields i field → i < length fields
+    → members_text later (fields_data (map shown (drop i fields)))
+    ≡ (comma_if later ++ (quoted (shown field).0 ++ 58 ∷ compact_text (value_data (shown field).1))) ++ members_text true (fields_data (map shown (drop (i + 1) fields)))
+next_field {X} shown later fields i field here within =
+    let name = (shown field).0 in
+    let value = compact_text (value_data (shown field).1) in
+    let rest = members_text true (fields_data (map shown (drop (i + 1) fields))) in
+    ap (λ (list : List X). members_text later (fields_data (map shown list))) (drop_more fields i field within ∙ ap (λ (x : X). x ∷ drop (i + 1) fields) (sym here))
+    ∙ sym (append_assoc (comma_if later) (quoted name ++ 58 ∷ value) rest ∙ ap (λ (text : List ℕ). comma_if later ++ text) (append_assoc (quoted name) (58 ∷ value) rest))
+
+pub no_field : {X : Type 0} (shown : X → Field) (later : Bool) (fields : List X) (i : ℕ) → length fields ≤ i → 125 ∷ [] ≡ members_text later (fields_data (map shown (drop i fields)))
+no_field {X} shown later fields i over = sym (ap (λ (list : List X). members_text later (fields_data (map shown list))) (drop_all i fields over))

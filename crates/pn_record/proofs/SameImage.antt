@@ -1,6 +1,6 @@
--- A value that has the shape of an image is the JSON of that image, and that JSON has its shape.
-use Rattle.std.proofs.Common.{◌≡◌, ℕ, List, [], ◌∷◌, length, codes, true, false, ◌&&◌, leb, Option, Some, None, Ok, String, Global, string_cmp, bytes_eq, refl, sym, ap, ◌∙◌}
-use Rattle.std.proofs.lemmas.Bool.{and_parts}
+-- A value that has the shape of an image, and keeps the limits, is the JSON of that image.
+use Rattle.std.proofs.Common.{◌≡◌, ℕ, List, true, ◌&&◌, Option, Some, None, Ok, refl, [], ◌∷◌, length, codes, false, leb, String, Global, string_cmp, bytes_eq, sym, ap, ◌∙◌}
+use Rattle.std.proofs.lemmas.Bool.{and_parts, and_from}
 use Rattle.std.specs.List.{list_all, list_any, sum_by}
 use Rattle.std.specs.List.Sorted.{IsStrictlySortedBy}
 use Rattle.std.specs.Map.{keys_of}
@@ -8,20 +8,51 @@ use Rattle.serde_json.specs.Data.{Data, string, object, Members, no_members, mem
 use Rattle.serde_json.specs.Find.{get_member, as_object}
 use Rattle.serde_json.specs.View.{members_view}
 use Rattle.serde_json.specs.declared.value.Value.{Value}
-use Rattle.pn_join.specs.Naming.{is_name}
-use Rattle.pn_record.specs.Bodies.{field_size, is_body, is_content, fields_fit, names_rise}
-use Rattle.pn_record.specs.Limits.{Field, is_field, is_key, is_version}
+use Rattle.pn_join.specs.Marks.{is_name}
+use Rattle.pn_json.proofs.LookUps.{passed, object_from_as_object, Rise, Rise-map, get_member-member, get_member-unnamed, same_members, or_elsewhere}
 use Rattle.pn_json.specs.Members.{only_named}
-use Rattle.pn_record.specs.BodyGrammar.{all_values, fields_of}
-use Rattle.pn_record.specs.Grammar.{image_members, shape_in, image_in}
+use Rattle.pn_record.specs.Limits.{is_body, is_content, fields_fit, names_rise, field_size, Field, is_key, is_version, is_field}
+use Rattle.pn_record.specs.Grammar.{body_fits, all_values, fields_of, ranges_in, image_members, shape_in, image_in}
+use Rattle.pn_record.specs.Reading.{body_rises, is_image, IsImage}
+use Rattle.pn_record.specs.declared.records.Image.{Image}
 use Rattle.pn_record.specs.Writing.{version_data, fields_data, body_data, image_data}
-use Rattle.pn_record.specs.Canonical.{is_image, IsImage}
-use Rattle.pn_record.specs.declared.image.Image.{Image}
-use Rattle.pn_json.proofs.LookUps.{Rise, Rise-map, get_member-member, get_member-unnamed, same_members, or_elsewhere}
-use Rattle.pn_json.proofs.Inverses.{object_from_as_object}
-use Rattle.pn_record.proofs.Limiting.{in_ranges}
-use Rattle.pn_record.proofs.ShapeParts.{Holds, holds, at_deleted, at_fields}
-use Rattle.pn_record.proofs.Values.{value_in-value_data, field_value}
+use Rattle.pn_record.proofs.ShapeParts.{Holds, holds, at_deleted, at_fields, value_in-value_data, field_value}
+
+-- The members of an image keep the limits exactly where no range is broken.
+
+body_parts : (f : Option (List Field)) → is_body f ≡ true → (body_fits f ≡ true) × (body_rises f ≡ true)
+body_parts None is = (refl, refl)
+body_parts (Some fields) is = and_parts (fields_fit fields) (names_rise fields) is
+
+body_from : (f : Option (List Field)) → body_fits f ≡ true → body_rises f ≡ true → is_body f ≡ true
+body_from None fits rise = refl
+body_from (Some fields) fits rise = and_from (fields_fit fields) (names_rise fields) fits rise
+
+-- a body that fits and whose names rise, and a master, are a content
+pub content_from : (f : Option (List Field)) (master : List ℕ) → body_fits f ≡ true → body_rises f ≡ true → is_name master ≡ true → is_content (f, master) ≡ true
+content_from f master fits rise named = and_from (is_body f) (is_name master) (body_from f fits rise) named
+
+-- an image breaks no range
+pub in_ranges : (image : Image) → is_image image ≡ true → ranges_in image ≡ Ok tt
+unfolding ranges_in
+in_ranges image is =
+    let parts = and_parts (is_key image.key && is_version image.version) (is_content image.content) is in
+    let one = and_parts (is_key image.key) (is_version image.version) parts.0 in
+    let two = and_parts (is_body image.content.0) (is_name image.content.1) parts.1 in
+    let fits = (body_parts image.content.0 two.0).0 in
+    rw (fits, one.0, two.1, one.1) refl
+
+-- what breaks no range is an image, if its names rise
+pub image_from_ranges : (image : Image) → ranges_in image ≡ Ok tt → body_rises image.content.0 ≡ true → is_image image ≡ true
+unfolding ranges_in
+image_from_ranges image is rise =
+    let body = passed (body_fits image.content.0) _ _ tt is in
+    let key = passed (is_key image.key) _ _ tt body.1 in
+    let master = passed (is_name image.content.1) _ _ tt key.1 in
+    let version = passed (is_version image.version) _ _ tt master.1 in
+    and_from _ _ (and_from _ _ key.0 version.0) (content_from image.content.0 image.content.1 body.0 rise master.0)
+
+-- A value that has the shape of an image is the JSON of that image, and that JSON has its shape.
 
 -- the members of an image's JSON
 abbrev members_of : Image → Members

@@ -1,13 +1,10 @@
-//! Cells: what a replica keeps of each record.
+//! The cell of a key, and what holds one.
 
-ghost use Rattle.std.specs.Prelude.{◌≡◌, ◌≢◌, ◌↔◌, ◌∷◌, [], ◌<◌, length, unwrap_or, IsTrue, IfOk, IfSome, OnOk, OnErr};
+ghost use Rattle.std.specs.Prelude.{◌≡◌, ◌≢◌, ◌↔◌, ◌∷◌, [], ◌<◌, length, unwrap_or, IsTrue, IfOk, IfSome, OnOk, OnErr, IfErr};
 ghost use Rattle.std.specs.FinMap.{keys};
 ghost use Rattle.std.specs.List.{list_all};
-ghost use Rattle.pn_record.specs.Sets.{CellValue, set_of, union, cell_joined, HasContents};
-ghost use Rattle.pn_record.specs.Laws.JoinedCells.{cell_joined-laws};
-ghost use Rattle.pn_record.specs.States.{state_of, is_deletion as deletes};
-
-mod holding;
+ghost use Rattle.pn_record.specs.Sets.{CellValue, set_of, union, cell_joined, HasContents, state_of, is_deletion as deletes};
+ghost use Rattle.pn_record.specs.Laws.{cell_joined-laws};
 
 use crate::held_contents::{HeldContents, merge_contents};
 use crate::{Body, Content, Version};
@@ -42,8 +39,8 @@ impl Model for Cell {
     ghost use Rattle.std.specs.Coded.{coded_ℕ, coded×};
     ghost use Rattle.std.specs.FinMap as map;
     ghost use base.Stored.{coded_unit};
-    ghost use Rattle.pn_record.specs.Coding.{shown_code};
-    ghost use Rattle.pn_record.specs.Held.{held_contents};
+    ghost use Rattle.pn_record.specs.Showing.{shown_code};
+    ghost use Rattle.pn_record.specs.Showing.{held_contents};
     ghost use Rattle.pn_record.specs.Sets.{CellValue, set_of, IsContents};
 
     ghost Value = { CellValue };
@@ -218,5 +215,25 @@ impl Cell {
             self.contents = Arc::new(self.alloc, HeldContents::Many(contents))?;
         }
         Ok(())
+    }
+}
+
+impl Cell {
+    /// The cell of one image. Where memory runs out, the content is given back.
+    pub fn holding(alloc: Global, version: Version, content: Content) -> Result<Cell, Content>
+        ensures ok { IfOk result (λ cell. (cell ≡ (version, set_of (content ∷ []))) × HasContents cell) }
+        ensures err { IfErr result (λ back. back ≡ content) }
+    {
+        match Arc::new(alloc, HeldContents::One(content)) {
+            Ok(contents) => Ok(Cell {
+                version,
+                contents,
+                alloc,
+            }),
+            Err(refused) => match refused.value {
+                HeldContents::One(content) => Err(content),
+                HeldContents::Many(_) => unreachable!(),
+            },
+        }
     }
 }

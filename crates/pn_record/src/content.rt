@@ -4,13 +4,11 @@ ghost use Rattle.std.specs.Prelude.{◌≡◌, IsTrue, ◌↔◌, IfSome, IsSome
 ghost use Rattle.std.specs.Ordering.{is_lt, nat_cmp};
 ghost use Rattle.std.specs.Cmp.Lexicographic.{slice_cmp};
 ghost use Rattle.pn_join.specs.Prelude.{is_name};
-ghost use Rattle.pn_record.specs.Bodies.{is_body, is_body as body_fits, fields_fit as all_fit, names_rise as all_rise};
-ghost use Rattle.pn_record.specs.Limits.{is_field as one_fits};
-ghost use Rattle.pn_record.specs.Numbers.{is_numeric, have_number as any_number, holds_number};
-ghost use Rattle.pn_record.specs.Showing.{shown_body, shown_field, shown_ref, shown_value};
+ghost use Rattle.pn_record.specs.Limits.{is_body, is_body as body_fits, fields_fit as all_fit, names_rise as all_rise, is_field as one_fits};
+ghost use Rattle.pn_record.specs.Showing.{is_numeric, have_number as any_number, holds_number, shown_body, shown_field, shown_ref, shown_value};
 
 use crate::ValueRef;
-use crate::limits::{MAX_FIELD_BYTES, MAX_FIELD_NAME_BYTES, MAX_FIELDS};
+use crate::version::{MAX_FIELD_BYTES, MAX_FIELD_NAME_BYTES, MAX_FIELDS};
 use pn_join::{Dup, Name, NoMemory};
 use std::alloc::Global;
 use std::marker::Model;
@@ -43,7 +41,7 @@ pub struct Content {
 
 impl Model for Content {
     ghost use Rattle.std.specs.Prelude.{ℕ, List, IsTrue};
-    ghost use Rattle.pn_record.specs.Bodies.{is_content};
+    ghost use Rattle.pn_record.specs.Limits.{is_content};
     ghost use Rattle.pn_record.specs.Limits.{ContentValue};
 
     ghost Value = { ContentValue };

@@ -1,7 +1,7 @@
 //! Why a text or a value is no image.
 
 ghost use Rattle.std.specs.Prelude.{◌≡◌, Some};
-ghost use Rattle.pn_record.specs.Words.{word_of};
+ghost use Rattle.pn_record.specs.Grammar.{word_of, word_of_fault};
 ghost use Rattle.pn_record.specs.declared.fault.ImageFault.TheVariants.{Memory};
 
 use pn_join::NoMemory;
@@ -58,6 +58,21 @@ impl Member {
             Member::At => "at",
             Member::Image => "image",
             Member::Other => "other",
+        }
+    }
+}
+
+impl ImageFault {
+    /// The fault's kind in lower case, as `bad-shape`.
+    pub fn word(&self) -> &'static str
+        ensures { result.now ≡ word_of_fault self.now }
+    {
+        match self {
+            ImageFault::TooLong => "too-long",
+            ImageFault::NotJson => "not-json",
+            ImageFault::Memory => "memory",
+            ImageFault::BadShape(_) => "bad-shape",
+            ImageFault::OutOfRange(_) => "out-of-range",
         }
     }
 }

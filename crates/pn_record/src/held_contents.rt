@@ -1,7 +1,7 @@
 //! The contents of a cell, of which a single one needs no list, and the contents of two cells merged.
 
 ghost use Rattle.std.specs.Prelude.{◌≡◌, ◌++◌, ◌<◌, length, IsTrue, IfOk, OnOk};
-ghost use Rattle.pn_record.specs.Held.{held_contents};
+ghost use Rattle.pn_record.specs.Showing.{held_contents};
 ghost use Rattle.pn_record.specs.Sets.{IsContents, set_of, union};
 
 use crate::Content;

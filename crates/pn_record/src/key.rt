@@ -1,6 +1,6 @@
-//! Keys of records.
+//! Keys of records, and their texts.
 
-ghost use Rattle.std.specs.Prelude.{◌≡◌, false, IsTrue, ◌↔◌, IfOk, IsErrOf};
+ghost use Rattle.std.specs.Prelude.{◌≡◌, false, IsTrue, ◌↔◌, IfOk, IsErrOf, nat_le, length, IsOk};
 ghost use Rattle.std.specs.Str.{bytes_eq};
 ghost use Rattle.std.specs.Ordering.{nat_cmp, as_partial_cmp};
 ghost use Rattle.std.specs.Cmp.{partial_order_from_own_ties};
@@ -8,9 +8,11 @@ ghost use Rattle.std.specs.Cmp.Rules.{comparing};
 ghost use Rattle.std.specs.Cmp.Lexicographic.{slice_cmp};
 ghost use Rattle.std.proofs.Common.{rules};
 ghost use Rattle.pn_record.specs.Limits.{is_key as is_key_text};
+ghost use Rattle.pn_record.specs.Showing.{held_text, is_in_place};
+ghost use Rattle.pn_record.specs.declared.version.TheConstants.{MAX_SHORT_BYTES};
 
-use crate::key_text::KeyText;
-use crate::limits::MAX_KEY_BYTES;
+use crate::short_text::ShortText;
+use crate::version::{MAX_KEY_BYTES, MAX_SHORT_BYTES};
 use pn_join::{Dup, NoMemory};
 use std::alloc::Global;
 use std::cmp::Ordering;
@@ -35,7 +37,7 @@ pub enum KeyFault {
 impl Model for Key {
     ghost use Rattle.std.specs.Prelude.{ℕ, List, IsTrue};
     ghost use Rattle.pn_record.specs.Limits.{is_key};
-    ghost use Rattle.pn_record.specs.Held.{held_text};
+    ghost use Rattle.pn_record.specs.Showing.{held_text};
 
     ghost Value = { List ℕ };
 
@@ -130,5 +132,51 @@ impl Ord for Key {
 
     fn cmp(&self, other: &Key) -> Ordering {
         self.as_str().cmp(other.as_str())
+    }
+}
+
+/// The text of a key. Which form it has is decided by its length alone.
+#[derive(Debug, Drop)]
+pub enum KeyText {
+    /// At most 31 bytes.
+    Short(ShortText),
+    /// More than 31 bytes.
+    Long(String),
+}
+
+impl KeyText {
+    /// Copies a text. For a short one no memory is taken, so that it always succeeds.
+    pub fn of(alloc: Global, text: &str) -> Result<KeyText, NoMemory>
+        ensures copied { IfOk result (λ held. held_text held ≡ text.now) }
+        ensures in_place { IfOk result (λ held. is_in_place held ≡ nat_le (length text.now) MAX_SHORT_BYTES) }
+        ensures always { IsTrue (nat_le (length text.now) MAX_SHORT_BYTES) → IsOk result }
+    {
+        if text.len() <= MAX_SHORT_BYTES {
+            Ok(KeyText::Short(ShortText::of(text)))
+        } else {
+            Ok(KeyText::Long(String::from_str(alloc, text)?))
+        }
+    }
+
+    /// The text as a slice, wherever it is held.
+    pub fn as_str(&self) -> &str
+        ensures { result.now ≡ held_text self.now }
+    {
+        match self {
+            KeyText::Short(text) => text.as_str(),
+            KeyText::Long(text) => text.as_str(),
+        }
+    }
+
+    /// An equal text of its own. For a short one no memory is taken, so that it always succeeds.
+    pub fn dup(&self) -> Result<KeyText, NoMemory>
+        ensures equal { IfOk result (λ copy. held_text copy ≡ held_text self.now) }
+        ensures in_place { IfOk result (λ copy. is_in_place copy ≡ is_in_place self.now) }
+        ensures always { IsTrue (is_in_place self.now) → IsOk result }
+    {
+        match self {
+            KeyText::Short(text) => Ok(KeyText::Short(text.dup())),
+            KeyText::Long(text) => Ok(KeyText::Long(text.clone()?)),
+        }
     }
 }

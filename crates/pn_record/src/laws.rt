@@ -4,14 +4,12 @@ ghost use Rattle.std.specs.Prelude.{◌≡◌, ◌≤◌, ℕ, false, List, [], 
 ghost use Rattle.std.specs.Ordering.{is_gt};
 ghost use Rattle.std.specs.FinMap.{is_sorted};
 ghost use Rattle.pn_join.specs.Prelude.{JoinLaws, optional_joined};
-ghost use Rattle.pn_record.specs.declared.image.Image.{Image};
-ghost use Rattle.pn_record.specs.Order.{bytes_cmp, version_cmp};
-ghost use Rattle.pn_record.specs.Sets.{CellValue, cell_joined};
+ghost use Rattle.pn_record.specs.declared.records.Image.{Image};
+ghost use Rattle.pn_record.specs.Sets.{bytes_cmp, version_cmp, CellValue, cell_joined};
 ghost use Rattle.json.specs.Json.{Json};
 ghost use Rattle.json.specs.Lex.{tokens};
-ghost use Rattle.pn_record.specs.Canonical.{IsImageLine};
+ghost use Rattle.pn_record.specs.Reading.{IsImageLine, value_at, image_at};
 ghost use Rattle.pn_record.specs.Limits.{max_line_bytes};
-ghost use Rattle.pn_record.specs.Reading.{value_at, image_at};
 ghost use Rattle.pn_record.specs.Reordered.{Spells, IsReordered};
 ghost use Rattle.pn_record.specs.Cells.{Holds, IsTop, SameImages, cells, top};
 

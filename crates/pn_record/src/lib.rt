@@ -8,16 +8,12 @@ mod cell;
 mod content;
 mod fault;
 mod held_contents;
-mod image;
 mod key;
-mod key_text;
 pub mod laws;
-pub mod limits;
-mod order;
 mod records;
 mod short_text;
 mod value_ref;
-mod version;
+pub mod version;
 
 pub use as_json::{
     UncheckedImage, append_content, append_image, append_version, content_value, image_from,
@@ -28,8 +24,7 @@ pub use as_json::{
 pub use cell::{Cell, CellState};
 pub use content::{Body, Content, Value, is_field};
 pub use fault::{ImageFault, Member};
-pub use image::Image;
 pub use key::{Key, KeyFault};
-pub use records::{Records, add_image, join_and_tell, join_records};
+pub use records::{Image, Records, add_image, join_records, join_with_changes};
 pub use value_ref::{ValueRef, value_of};
 pub use version::Version;

@@ -1,18 +1,24 @@
-//! Records by key: a table of cells.
+//! Images, and the records that they are of.
 
 ghost use Rattle.std.specs.Prelude.{◌≡◌, ◌≢◌, ℕ, Some, IsTrue, ◌∷◌, [], ◌++◌, List, IfOk, OnOk, OnErr};
-ghost use Rattle.pn_record.specs.declared.image.Image.{Image};
-ghost use Rattle.pn_record.specs.Cells.{Holds, spell};
-ghost use Rattle.pn_record.specs.CellMap.{adds};
-ghost use Rattle.pn_record.specs.Order.{bytes_cmp};
-ghost use Rattle.pn_record.specs.Sets.{cell_joined, HasContents};
-ghost use Rattle.pn_join.specs.Prelude.{AreChanges, optional_joined};
 ghost use Rattle.std.specs.FinMap.{find, is_sorted};
 ghost use Rattle.std.specs.List.{AllByRecursion};
+ghost use Rattle.pn_record.specs.declared.records.Image.{Image};
+ghost use Rattle.pn_record.specs.Cells.{Holds, spell, adds};
+ghost use Rattle.pn_record.specs.Sets.{bytes_cmp, cell_joined, HasContents};
+ghost use Rattle.pn_join.specs.Prelude.{AreChanges, optional_joined};
 
-use crate::{Cell, Image, Key};
+use crate::{Cell, Content, Key, Version};
 use pn_join::{Join, NoMemory, Table, TableChange};
 use std::alloc::Global;
+
+/// A full image of a record, as one update left it.
+#[derive(Debug, Drop)]
+pub struct Image {
+    pub key: Key,
+    pub version: Version,
+    pub content: Content,
+}
 
 /// The cells of records, by their keys.
 pub type Records = Table<Key, Cell>;
@@ -47,7 +53,7 @@ pub fn join_records(records: &mut Records, other: &Records) -> Result<(), NoMemo
 
 /// Joins other records into these, and returns the keys whose cells changed, in key order. An error leaves them as
 /// they were.
-pub fn join_and_tell(
+pub fn join_with_changes(
     records: &mut Records,
     other: &Records,
 ) -> Result<Vec<TableChange<Key, Cell>>, NoMemory>
@@ -59,5 +65,5 @@ pub fn join_and_tell(
     ensures rising { OnOk result (IsTrue (is_sorted bytes_cmp records.new) × IsTrue (is_sorted bytes_cmp other.now)) }
     ensures err { OnErr result (records.new ≡ records.old) }
 {
-    records.join_and_tell(other)
+    records.join_with_changes(other)
 }

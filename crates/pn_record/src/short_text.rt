@@ -1,9 +1,9 @@
 //! Texts that are short enough to be held in place.
 
 ghost use Rattle.std.specs.Prelude.{◌≡◌, ◌≤◌, length, IsUtf8};
-ghost use Rattle.pn_record.specs.declared.limits.TheConstants.{MAX_SHORT_BYTES};
+ghost use Rattle.pn_record.specs.declared.version.TheConstants.{MAX_SHORT_BYTES};
 
-use crate::limits::MAX_SHORT_BYTES;
+use crate::version::MAX_SHORT_BYTES;
 use std::marker::Model;
 use std::str;
 
@@ -17,7 +17,7 @@ pub struct ShortText {
 
 impl Model for ShortText {
     ghost use Rattle.std.specs.Prelude.{ℕ, List, take, ◌≤◌, IsUtf8};
-    ghost use Rattle.pn_record.specs.declared.limits.TheConstants.{MAX_SHORT_BYTES};
+    ghost use Rattle.pn_record.specs.declared.version.TheConstants.{MAX_SHORT_BYTES};
 
     ghost Value = { List ℕ };
 

@@ -2,13 +2,12 @@
 
 ghost use Rattle.std.specs.Prelude.{◌≡◌, option_map, IfOk};
 ghost use Rattle.serde_json.specs.View.{view};
-ghost use Rattle.pn_record.specs.Bodies.{value_size};
-ghost use Rattle.pn_record.specs.BodyGrammar.{value_in};
-ghost use Rattle.pn_record.specs.Limits.{is_value};
+ghost use Rattle.pn_record.specs.Limits.{value_size, is_value};
+ghost use Rattle.pn_record.specs.Grammar.{value_in};
 ghost use Rattle.pn_record.specs.Showing.{shown_ref, shown_value};
 
 use crate::Value;
-use crate::limits::{MAX_TEXT_BYTES, NUMBER_BYTES};
+use crate::version::{MAX_TEXT_BYTES, NUMBER_BYTES};
 use pn_join::NoMemory;
 use pn_json::signed_number_of;
 use std::alloc::Global;

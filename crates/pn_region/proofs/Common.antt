@@ -5,20 +5,14 @@ pub use Rattle.std.specs.Option.{option_or}
 pub use Rattle.std.specs.Ordering.{eq_by_cmp}
 pub use Rattle.std.specs.Prelude.{Ok, Err, MatchResult, Some, slice_get, Result, IsSome}
 pub use Rattle.pn_join.specs.Marks.{Positions, Reaches, position_of, raised_marks, name_cmp, are_positions}
-pub use Rattle.pn_record.specs.CellMap.{Entries, table_of}
-pub use Rattle.pn_record.specs.Cells.{spell, SameImages}
-pub use Rattle.pn_record.specs.Order.{bytes_cmp}
-pub use Rattle.pn_record.specs.Sets.{CellValue, Stamp}
-pub use Rattle.pn_record.specs.declared.image.Image.{Image}
-pub use Rattle.pn_stream.specs.Brokers.{BrokerRecord, up_to, AreHonest}
-pub use Rattle.pn_stream.specs.Positions.{DeliveryValue}
-pub use Rattle.pn_tablet.specs.Changes.{changes}
+pub use Rattle.pn_record.specs.Cells.{Entries, table_of, spell, SameImages}
+pub use Rattle.pn_record.specs.Sets.{bytes_cmp, CellValue, Stamp}
+pub use Rattle.pn_record.specs.declared.records.Image.{Image}
+pub use Rattle.pn_stream.specs.Brokers.{BrokerRecord, up_to, AreHonest, DeliveryValue}
+pub use Rattle.pn_tablet.specs.Steps.{changes, tablet_after, recovering_tablet, step, after_step}
 pub use Rattle.pn_tablet.specs.Copies.{TabletCopyValue}
-pub use Rattle.pn_tablet.specs.Layouts.{Bounds, IsLayout, tablet_ends, tablet_of}
-pub use Rattle.pn_tablet.specs.Needs.{need_shortfall}
-pub use Rattle.pn_tablet.specs.Ranges.{Ends, in_range}
-pub use Rattle.pn_tablet.specs.Steps.{tablet_after, recovering_tablet, step, after_step}
-pub use Rattle.pn_tablet.specs.Tablets.{TabletStateValue, empty_tablet, lie_in, same_range}
+pub use Rattle.pn_tablet.specs.Layouts.{Bounds, IsLayout, tablet_ends, tablet_of, Ends, in_range}
+pub use Rattle.pn_tablet.specs.Tablets.{need_shortfall, TabletStateValue, empty_tablet, lie_in, same_range}
 pub use Rattle.pn_tablet.specs.declared.change.Change.{Change}
 pub use Rattle.pn_tablet.specs.declared.fault.OpFault.TheVariants.{WrongRange}
 pub use Rattle.pn_tablet.specs.declared.fault.Shortfall.{Shortfall}
@@ -28,16 +22,12 @@ pub use Rattle.pn_tablet.specs.declared.state.Status.TheVariants.{Serving, Recov
 pub use Rattle.pn_apply.specs.Applying.{all_stepped, AreOldOrStepped, all_changes}
 pub use Rattle.pn_apply.specs.Reducing.{all_images, images_in, join_in, ranges, joined_cells}
 pub use Rattle.pn_scan.specs.Pages.{refusal, first_refusal, first_page}
-pub use Rattle.pn_region.specs.Faith.{IsFaithful, AreFaithful}
-pub use Rattle.pn_region.specs.Laws.{HasImages, AreIn, HasBetween}
+pub use Rattle.pn_region.specs.Laws.{IsFaithful, AreFaithful, HasImages, AreIn, HasBetween}
 pub use Rattle.pn_region.specs.declared.notices.TheConstants.{MAX_NOTICES, LAST_NUMBER}
-pub use Rattle.pn_region.specs.Log.{entries_of}
-pub use Rattle.pn_region.specs.Logged.{LoggedRegion}
-pub use Rattle.pn_region.specs.Marking.{new_marks, last_position, with_images, with_delivery, leaves_gap, marks_after, of_few_streams, with_deliveries}
-pub use Rattle.pn_region.specs.Reads.{look_for, get_in, page_in, all_looks}
+pub use Rattle.pn_region.specs.Log.{entries_of, LoggedRegion}
+pub use Rattle.pn_region.specs.Rounds.{new_marks, last_position, with_images, with_delivery, leaves_gap, marks_after, of_few_streams, with_deliveries, joins, IsHalfTaken}
+pub use Rattle.pn_region.specs.Reads.{look_for, get_in, page_in, all_looks, AllServe}
 pub use Rattle.pn_region.specs.Recovery.{tablets_after_op, tablet_for, after_adoption_by}
 pub use Rattle.pn_region.specs.Regions.{RegionValue, IsTabletOf, AreTabletsOf, IsRegion, new_region, all_cells, IsSound}
-pub use Rattle.pn_region.specs.Rounds.{joins, IsHalfTaken}
-pub use Rattle.pn_region.specs.Serving.{AllServe}
 pub use Rattle.pn_region.specs.declared.fault.RoundFault.{RoundFault}
 pub use Rattle.pn_region.specs.declared.fault.RoundFault.TheVariants.{Gap, TooManyStreams, Memory}

@@ -1,21 +1,25 @@
--- The images that a region has after events.
-use Rattle.std.proofs.Common.{◌≡◌, List, [], ◌∷◌, ◌++◌, map, refl, sym, ap, ◌∙◌, subst, Contains}
+-- The images that a region has after events, and that no tablet took a stream past the marks.
+use Rattle.std.proofs.Common.{◌≡◌, List, [], ◌∷◌, ◌++◌, map, refl, sym, ap, ◌∙◌, subst, Contains, Ok, arith}
 use Rattle.std.proofs.lemmas.List.{append-nil, append_assoc}
+use Rattle.pn_join.proofs.MarksFacts.{position_of-raised_marks}
 use Rattle.pn_record.proofs.CellLists.{cells-same}
 use Rattle.pn_record.proofs.CellMaps.{table_of-nil, same_cells_table}
-use Rattle.pn_region.specs.Events.{RegionEvent, round, half_round, loss, adoption, relayout, advance, LeadsTo, AllLeadTo, AreHonestEvents}
-use Rattle.pn_region.specs.Taken.{taken_by, all_taken, left_by, all_left, CoversTell, HoldsTaken, HoldTaken, LosesNothing, LoseNothing}
+use Rattle.pn_region.specs.Events.{RegionEvent, round, half_round, loss, adoption, relayout, advance, LeadsTo, AllLeadTo, AreHonestEvents, taken_by, all_taken, left_by, all_left, CoversTell, HoldsTaken, HoldTaken, LosesNothing, LoseNothing}
 use Rattle.pn_region.proofs.Advanced.{advances}
-use Rattle.pn_region.proofs.Common.{AllByRecursion, Positions, Image, SameImages, table_of, BrokerRecord, Bounds, IsLayout, Ends, TabletStateValue, empty_tablet, Serving, all_images, images_in, ranges, AreIn, HasBetween, RegionValue, AreTabletsOf, IsRegion, new_region, all_cells, AllServe}
-use Rattle.pn_region.proofs.Covers.{cover_rules}
+use Rattle.pn_region.proofs.Common.{AllByRecursion, Positions, Image, SameImages, table_of, BrokerRecord, Bounds, IsLayout, Ends, TabletStateValue, empty_tablet, Serving, all_images, images_in, ranges, AreIn, HasBetween, RegionValue, AreTabletsOf, IsRegion, new_region, all_cells, AllServe, Reaches, up_to, DeliveryValue, tablet_after, all_stepped, join_in, IsFaithful, AreFaithful, HasImages, new_marks, IsTabletOf}
+use Rattle.pn_region.proofs.Holding.{cover_rules, holds_all, all_hold, all_told, told_rules}
 use Rattle.pn_region.proofs.EventRules.{none, events_go_on}
 use Rattle.pn_region.proofs.EventSteps.{takes, event_is, events_are}
-use Rattle.pn_region.proofs.Holding.{holds_all, all_hold, all_told, told_rules}
-use Rattle.pn_region.proofs.LaidBetween.{relaid_between}
-use Rattle.pn_region.proofs.NewRegion.{new_is}
-use Rattle.pn_region.proofs.Relaying.{relays}
-use Rattle.pn_region.proofs.TakenImages.{by_part, alike_in, cells_each, pieces_of, new_between, round_surely_takes, round_may_take}
-use Rattle.pn_region.proofs.Together.{together, surely_together}
+use Rattle.pn_region.proofs.Relaying.{relaid_between, relays}
+use Rattle.pn_region.proofs.RoundSteps.{new_is, is_taken}
+use Rattle.pn_region.proofs.TakenImages.{by_part, alike_in, cells_each, pieces_of, new_between, round_surely_takes, round_may_take, together, surely_together}
+use Rattle.pn_region.specs.Regions.{NoneAhead}
+use Rattle.pn_region.specs.Rounds.{after_joins}
+use Rattle.pn_region.proofs.Faith.{new_faithful}
+use Rattle.pn_region.proofs.FaithfulEvents.{serving_has_all, events_faithful}
+use Rattle.pn_region.proofs.MarkLaws.{next_reaches, up_to_more}
+
+-- The images that a region has after events.
 
 none_told : (broker : BrokerRecord) (rs : List Ends) → CoversTell broker [] [] (map empty_tablet rs)
 none_told broker [] = tt
@@ -112,3 +116,75 @@ rounds_together broker bounds events region lawful lead rounds are =
 -- the same images make the same cells
 pub alike : (one other : RegionValue) (images others : List Image) → all_cells one ≡ table_of images → all_cells other ≡ table_of others → SameImages images others → all_cells one ≡ all_cells other
 alike one other images others is is_too same = is ∙ same_cells_table images others (cells-same images others same) ∙ sym is_too
+
+-- Regions in which no tablet took a stream past the marks.
+
+none_of : (rs : List Ends) → AllByRecursion (λ (t : TabletStateValue). Reaches [] t.reach) (map empty_tablet rs)
+none_of [] = tt
+none_of (r ∷ rs) = ((λ name. omega arith), none_of rs)
+
+pub new_none : (bounds : Bounds) → NoneAhead (new_region bounds)
+new_none bounds = none_of (ranges bounds)
+
+module _ (old next : Positions) (images : List Image) (rise : Reaches next old) where
+  one_taken : (r : Ends) (t : TabletStateValue) → IsTabletOf old r t → Reaches old t.reach → Reaches next (tablet_after t (join_in next images r)).reach
+  one_taken r t is ahead =
+      subst (λ (u : TabletStateValue). Reaches next u.reach) (sym (is_taken next images old r t is))
+      (λ name. omega (arith, position_of-raised_marks t.reach next name, ahead name, rise name))
+
+  all_reached : (rs : List Ends) (ts : List TabletStateValue) → AreTabletsOf old rs ts → AllByRecursion (λ (t : TabletStateValue). Reaches old t.reach) ts
+      → AllByRecursion (λ (t : TabletStateValue). Reaches next t.reach) (all_stepped ts (map (join_in next images) rs))
+  all_reached [] [] are ahead = tt
+  all_reached [] (t ∷ ts) are ahead = absurd are
+  all_reached (r ∷ rs) [] are ahead = absurd are
+  all_reached (r ∷ rs) (t ∷ ts) are ahead = (one_taken r t are.0 ahead.0, all_reached rs ts are.1 ahead.1)
+
+-- rounds keep it so
+pub round_none : (region : RegionValue) (deliveries : List DeliveryValue) (marks : Positions) → IsRegion region → NoneAhead region → new_marks region.marks deliveries ≡ Ok marks → NoneAhead (after_joins region deliveries marks)
+round_none region deliveries marks is ahead accepted =
+    all_reached region.marks marks (all_images deliveries) (next_reaches region.marks marks deliveries accepted) (ranges region.layout) region.tablets is.tablets ahead
+
+-- then tablets that are faithful and serve have the images up to the marks
+module _ (broker : BrokerRecord) (marks : Positions) where
+  one_agrees : (r : Ends) (t : TabletStateValue) → IsTabletOf marks r t → IsFaithful broker t → t.status ≡ Serving → Reaches marks t.reach → t.cells ≡ table_of (images_in r (up_to broker marks))
+  one_agrees r t is faithful serves ahead =
+      serving_has_all broker t faithful serves (λ name. omega (arith, ahead name, is.covered name))
+      ∙ alike_in t.range (up_to broker t.cover) (up_to broker marks)
+      (λ image there lies. up_to_more broker marks t.cover (λ name. omega (arith, is.reached name, ahead name)) image there)
+      (λ image there lies. up_to_more broker t.cover marks is.covered image there)
+      ∙ ap (λ (range : Ends). table_of (images_in range (up_to broker marks))) is.range
+
+  all_agree : (rs : List Ends) (ts : List TabletStateValue) → AreTabletsOf marks rs ts → AreFaithful broker ts → AllByRecursion (λ (t : TabletStateValue). t.status ≡ Serving) ts
+      → AllByRecursion (λ (t : TabletStateValue). Reaches marks t.reach) ts → cells_each ts ≡ pieces_of (up_to broker marks) rs
+  all_agree [] [] are faithful serve ahead = refl
+  all_agree [] (t ∷ ts) are faithful serve ahead = absurd are
+  all_agree (r ∷ rs) [] are faithful serve ahead = absurd are
+  all_agree (r ∷ rs) (t ∷ ts) are faithful serve ahead =
+      λ i. one_agrees r t are.0 faithful.0 serve.0 ahead.0 i ∷ all_agree rs ts are.1 faithful.1 serve.1 ahead.1 i
+
+module _ (broker : BrokerRecord) (bounds : Bounds) (events : List RegionEvent) (region : RegionValue) (lawful : IsLayout bounds) (lead : AllLeadTo events (new_region bounds) region)
+    (honest : AreHonestEvents broker events) (serve : AllServe region) (ahead : NoneAhead region) where
+  first : IsRegion (new_region bounds)
+  first = new_is bounds (new_region bounds).tablets [] lawful refl refl
+
+  is : IsRegion region
+  is = events_are events (new_region bounds) region first lead
+
+  pub marked_images : HasImages region (up_to broker region.marks)
+  marked_images =
+      all_agree broker region.marks (ranges region.layout) region.tablets is.tablets
+      (events_faithful broker events (new_region bounds) region first (new_faithful broker bounds) honest lead) serve ahead
+
+  pub marked_cells : all_cells region ≡ table_of (up_to broker region.marks)
+  marked_cells = together region (up_to broker region.marks) is.lawful marked_images
+
+-- regions with the same marks have the same records
+pub marked_alike : (broker : BrokerRecord) (bounds others : Bounds) (events more : List RegionEvent) (one other : RegionValue)
+    → IsLayout bounds → AllLeadTo events (new_region bounds) one → AreHonestEvents broker events → AllServe one → NoneAhead one
+    → IsLayout others → AllLeadTo more (new_region others) other → AreHonestEvents broker more → AllServe other → NoneAhead other
+    → Reaches one.marks other.marks → Reaches other.marks one.marks → all_cells one ≡ all_cells other
+marked_alike broker bounds others events more one other lawful lead honest serve ahead lawful_too lead_too honest_too serve_too ahead_too reach reach_too =
+    alike one other (up_to broker one.marks) (up_to broker other.marks)
+    (marked_cells broker bounds events one lawful lead honest serve ahead)
+    (marked_cells broker others more other lawful_too lead_too honest_too serve_too ahead_too)
+    (λ image. (up_to_more broker other.marks one.marks reach_too image, up_to_more broker one.marks other.marks reach image))

@@ -5,16 +5,14 @@ use Rattle.std.proofs.lemmas.List.{append_assoc}
 use Rattle.std.proofs.lemmas.List.Elements.{Contains-append_left}
 use Rattle.pn_tablet.specs.Steps.{with_join}
 use Rattle.pn_tablet.specs.Steps as steps
-use Rattle.pn_tablet.proofs.Stepping.{one_range}
-use Rattle.pn_region.specs.Events.{RegionEvent, round, half_round, loss, adoption, relayout, advance, LeadsTo, AllLeadTo, IsHonestEvent, AreHonestEvents}
-use Rattle.pn_region.specs.Honest.{IsHonestCopy}
-use Rattle.pn_region.specs.Relayouts.{made_of}
-use Rattle.pn_region.specs.Taken.{taken_by, all_taken, left_by, all_left}
+use Rattle.pn_tablet.proofs.JoinLaws.{one_range}
+use Rattle.pn_region.specs.Events.{RegionEvent, round, half_round, loss, adoption, relayout, advance, LeadsTo, AllLeadTo, IsHonestEvent, AreHonestEvents, IsHonestCopy, taken_by, all_taken, left_by, all_left}
+use Rattle.pn_region.specs.Recovery.{made_of}
 use Rattle.pn_region.proofs.Common.{MatchResult, AllByRecursion, Positions, Image, table_of, BrokerRecord, up_to, AreHonest, DeliveryValue, TabletCopyValue, need_shortfall, Ends, in_range, recovering_tablet, after_step, tablet_after, TabletStateValue, same_range, WrongRange, Shortfall, Lose, Adopt, Serving, all_stepped, AreOldOrStepped, all_images, images_in, join_in, ranges, AreIn, new_marks, tablets_after_op, RegionValue, IsTabletOf, AreTabletsOf, IsRegion, joins, AllServe}
 use Rattle.pn_region.proofs.Advanced.{advances}
-use Rattle.pn_region.proofs.Apart.{Outside, Apart, ranges_apart}
+use Rattle.pn_region.proofs.Pieces.{Outside, Apart, ranges_apart}
 use Rattle.pn_region.proofs.EventSteps.{adopts, takes, event_is}
-use Rattle.pn_region.proofs.InRange.{from_images_in}
+use Rattle.pn_region.proofs.KeptRecords.{from_images_in}
 use Rattle.pn_region.proofs.OneTablet.{found_at, found_within}
 use Rattle.pn_region.proofs.Relaying.{relays}
 use Rattle.pn_region.proofs.RoundSteps.{is_taken}

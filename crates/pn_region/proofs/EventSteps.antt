@@ -1,16 +1,14 @@
 -- What an event does to each tablet.
 use Rattle.std.proofs.Common.{◌≡◌, ℕ, zero, suc, List, [], ◌∷◌, slice_get, Option, None, Some, Result, Ok, Err, refl, sym, ap, ◌∙◌, subst, arith, ◌⊎◌, inl, inr}
 use Rattle.std.specs.Result.{result_map_both}
-use Rattle.pn_region.specs.Events.{RegionEvent, round, half_round, loss, adoption, relayout, advance, LeadsTo, AllLeadTo}
+use Rattle.pn_region.specs.Events.{RegionEvent, round, half_round, loss, adoption, relayout, advance, LeadsTo, AllLeadTo, KeepsLayout, KeepLayout}
 use Rattle.pn_region.specs.Recovery.{after_op, lacks, after_adoption_unless, after_adoption}
 use Rattle.pn_region.specs.Rounds as rounds
-use Rattle.pn_region.specs.Taken.{KeepsLayout, KeepLayout}
 use Rattle.pn_region.proofs.Advanced.{advances, advanced_is}
 use Rattle.pn_region.proofs.Common.{Positions, Reaches, DeliveryValue, TabletCopyValue, tablet_after, TabletStateValue, Shortfall, TabletOp, Lose, Adopt, AreOldOrStepped, all_images, ranges, new_marks, tablets_after_op, tablet_for, after_adoption_by, RegionValue, IsRegion, RoundFault}
-use Rattle.pn_region.proofs.HalfRounds.{half_so, half_taken_is}
+use Rattle.pn_region.proofs.RoundEnds.{half_so, half_taken_is, taken_half}
 use Rattle.pn_region.proofs.OneTablet.{stepping_is}
 use Rattle.pn_region.proofs.Relaying.{relays, relaid_is}
-use Rattle.pn_region.proofs.RoundEnds.{taken_half}
 use Rattle.pn_region.proofs.RoundSteps.{all_taken}
 
 -- what is known of an adoption

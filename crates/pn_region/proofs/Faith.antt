@@ -3,19 +3,18 @@ use Rattle.std.proofs.Common.{◌≡◌, ℕ, ◌+◌, ◌<◌, ◌≤◌, true,
 use Rattle.std.proofs.lemmas.Bool.Decides.{nat_tests}
 use Rattle.std.proofs.lemmas.List.Elements.{Contains-append_left, Contains-append_right}
 use Rattle.pn_join.proofs.MarksFacts.{position_of-raised_marks}
-use Rattle.pn_record.specs.CellMap.{adds}
+use Rattle.pn_record.specs.Cells.{adds}
 use Rattle.pn_record.proofs.CellMaps.{table_of-nil}
 use Rattle.pn_stream.proofs.Published.{Stands, wider, in_part, part_of, is_up_to, published, brings, is_brought}
 use Rattle.pn_tablet.specs.Steps.{with_join}
 use Rattle.pn_apply.proofs.ReduceLaws.{range_joins, same_in}
-use Rattle.pn_tablet.specs.Needs.{needed}
+use Rattle.pn_tablet.specs.Tablets.{needed}
 use Rattle.pn_region.specs.Rounds as rounds
 use Rattle.pn_region.proofs.Common.{Ok, Err, MatchResult, Positions, Reaches, position_of, raised_marks, Image, spell, SameImages, Entries, table_of, DeliveryValue, BrokerRecord, up_to, AreHonest, Bounds, Ends, in_range, tablet_after, TabletStateValue, empty_tablet, AreOldOrStepped, all_images, images_in, join_in, ranges, IsFaithful, AreFaithful, HasImages, new_marks, last_position, RegionValue, IsTabletOf, AreTabletsOf, IsRegion, new_region, joins, IsHalfTaken}
-use Rattle.pn_region.proofs.MarkLaws.{not_skipped, next_has_last, next_reaches}
+use Rattle.pn_region.proofs.MarkLaws.{not_skipped, next_has_last, next_reaches, up_to_more}
 use Rattle.pn_region.proofs.RoundEnds.{taken_half}
 use Rattle.pn_region.proofs.RoundSteps.{is_taken}
 use Rattle.pn_region.proofs.TakenImages.{by_part, pieces_of, round_takes}
-use Rattle.pn_region.proofs.UpTo.{up_to_more}
 
 one_empty : (broker : BrokerRecord) (r : Ends) → IsFaithful broker (empty_tablet r)
 one_empty broker r = record {

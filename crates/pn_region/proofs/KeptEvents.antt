@@ -1,21 +1,27 @@
--- Over honest events the tablet of a key keeps its record.
-use Rattle.std.proofs.Common.{◌≡◌, ℕ, zero, suc, true, List, [], ◌∷◌, map, slice_get, Option, Some, refl, sym, ap, ◌∙◌, subst, arith, ◌⊎◌, inl, inr}
+-- Over honest events the tablet of a key keeps its record, in a region whose tablets serve.
+use Rattle.std.proofs.Common.{◌≡◌, ℕ, zero, suc, true, List, [], ◌∷◌, map, slice_get, Option, Some, refl, sym, ap, ◌∙◌, subst, arith, ◌⊎◌, inl, inr, false, None, IsTrue}
+use Rattle.std.specs.Prelude.{IsSomeAnd}
+use Rattle.std.specs.Ordering.{is_lt, is_gt}
+use Rattle.std.specs.declared.cmp.Ordering.{Ordering}
+use Rattle.std.specs.declared.cmp.Ordering.TheVariants.{Less, Equal, Greater}
 use Rattle.pn_record.proofs.CellLists.{both}
+use Rattle.pn_record.specs.Cells.{NotOlder}
+use Rattle.pn_record.specs.Sets.{version_cmp}
+use Rattle.pn_record.proofs.Differing.{joined_not_older}
 use Rattle.pn_tablet.proofs.LayoutFacts.{key_in_tablet, tablet_of_within}
-use Rattle.pn_region.specs.Events.{RegionEvent, round, half_round, loss, adoption, relayout, advance, LeadsTo, AllLeadTo, IsHonestEvent, AreHonestEvents}
-use Rattle.pn_region.specs.Held.{HoldsStill}
-use Rattle.pn_region.specs.Honest.{IsHonestCopy}
-use Rattle.pn_region.specs.Rounds as rounds
-use Rattle.pn_region.specs.Taken.{KeepsLayout}
+use Rattle.pn_region.specs.Events.{RegionEvent, round, half_round, loss, adoption, relayout, advance, LeadsTo, AllLeadTo, IsHonestEvent, AreHonestEvents, IsHonestCopy, KeepsLayout}
+use Rattle.pn_region.specs.Reads.{HoldsStill, ServesAt}
 use Rattle.pn_region.proofs.Advanced.{advances}
-use Rattle.pn_region.proofs.Common.{find, Positions, Image, bytes_cmp, CellValue, BrokerRecord, TabletCopyValue, tablet_of, tablet_ends, Ends, in_range, tablet_after, TabletStateValue, TabletOp, Join, Lose, Adopt, Serving, Recovering, AreOldOrStepped, all_images, join_in, ranges, IsFaithful, AreFaithful, tablets_after_op, RegionValue, AreTabletsOf, IsRegion}
-use Rattle.pn_region.proofs.Events.{by_layout, at_key, same_number, one_found, relaid_at, IsRelaidAt, found_at_key, spelled_at}
-use Rattle.pn_region.proofs.EventSteps.{adopts, takes, event_is, Each, each_at}
-use Rattle.pn_region.proofs.HalfRounds.{half_so}
+use Rattle.pn_region.proofs.Common.{find, Positions, Image, bytes_cmp, CellValue, BrokerRecord, TabletCopyValue, tablet_of, tablet_ends, Ends, in_range, tablet_after, TabletStateValue, TabletOp, Join, Lose, Adopt, Serving, Recovering, AreOldOrStepped, all_images, join_in, ranges, IsFaithful, AreFaithful, tablets_after_op, RegionValue, AreTabletsOf, IsRegion, Stamp, all_cells}
+use Rattle.pn_region.proofs.Events.{by_layout, at_key, same_number, one_found, relaid_at, IsRelaidAt, found_at_key, spelled_at, event_held}
+use Rattle.pn_region.proofs.EventSteps.{adopts, takes, event_is, Each, each_at, events_are}
+use Rattle.pn_region.proofs.RoundEnds.{half_so, taken_half}
 use Rattle.pn_region.proofs.KeptRecords.{NeedsAll, Has, Keeps, Brings, one_keeps, kept_itself, kept_held, copy_brings}
-use Rattle.pn_region.proofs.KeyTablets.{range_at}
-use Rattle.pn_region.proofs.RoundEnds.{taken_half}
+use Rattle.pn_region.proofs.Standing.{range_at, has_its_cell}
 use Rattle.pn_region.proofs.TakenImages.{one_of}
+use Rattle.pn_region.specs.Rounds as rounds
+
+-- Over honest events the tablet of a key keeps its record.
 
 -- ---- what an honest event does to each tablet
 
@@ -127,3 +133,49 @@ events_held broker events old new key t u is faithful honest lead there there_to
     let own = one_of (IsFaithful broker) old.tablets (tablet_of old.layout key) t faithful there in
     kept_held key was t.reach u serves
     (events_keep broker key was t.reach (λ copy honest_too. copy_brings broker key t copy own honest_too) events old new t u is honest lead there there_too (kept_itself key t))
+
+-- Records of a region whose tablets serve.
+
+below_not_above : (order : Ordering) → IsTrue (is_lt order) → is_gt order ≡ false
+below_not_above Less below = refl
+below_not_above Equal below = refl
+below_not_above Greater below = cc
+
+-- a record that is still held is not older
+pub not_older : (was now : Option CellValue) → HoldsStill was now → NotOlder was now
+not_older None now held = tt
+not_older (Some was) None held = absurd held
+not_older (Some was) (Some now) (inl below) = below_not_above (version_cmp was.0 now.0) below
+not_older (Some was) (Some now) (inr same) = subst (λ (version : Stamp). is_gt (version_cmp was.0 version) ≡ false) (sym same.0) (joined_not_older (Some was) None)
+
+record Served (found : Option TabletStateValue) : Type 0 where
+  pub tablet : TabletStateValue
+  pub there : found ≡ Some tablet
+  pub serves : tablet.status ≡ Serving
+
+served : (found : Option TabletStateValue) → IsSomeAnd found (λ tablet. tablet.status ≡ Serving) → Served found
+served None serves = absurd serves
+served (Some tablet) serves = record { tablet = tablet; there = refl; serves = serves }
+
+held_by : (old new : RegionValue) (t u : TabletStateValue) (key : List ℕ) → IsRegion old → IsRegion new → at_key old key ≡ Some t → at_key new key ≡ Some u
+    → HoldsStill (find bytes_cmp key t.cells) (find bytes_cmp key u.cells) → HoldsStill (find bytes_cmp key (all_cells old)) (find bytes_cmp key (all_cells new))
+held_by old new t u key is is_too there there_too held =
+    subst (λ (o : Option CellValue). HoldsStill o (find bytes_cmp key (all_cells new))) (has_its_cell old key t is there)
+    (subst (HoldsStill (find bytes_cmp key t.cells)) (has_its_cell new key u is_too there_too) held)
+
+-- a record whose tablet serves after an event is still held
+pub event_record : (event : RegionEvent) (old new : RegionValue) (key : List ℕ) → IsRegion old → LeadsTo event old new → ServesAt old key → ServesAt new key
+    → HoldsStill (find bytes_cmp key (all_cells old)) (find bytes_cmp key (all_cells new))
+event_record event old new key is leads serves serves_too =
+    let before = served (at_key old key) serves in
+    let after = served (at_key new key) serves_too in
+    held_by old new before.tablet after.tablet key is (event_is event old new is leads) before.there after.there
+    (event_held event old new key before.tablet after.tablet is leads before.there after.there after.serves)
+
+pub events_record : (broker : BrokerRecord) (events : List RegionEvent) (old new : RegionValue) (key : List ℕ) → IsRegion old → AreFaithful broker old.tablets → AreHonestEvents broker events → AllLeadTo events old new
+    → ServesAt old key → ServesAt new key → HoldsStill (find bytes_cmp key (all_cells old)) (find bytes_cmp key (all_cells new))
+events_record broker events old new key is faithful honest lead serves serves_too =
+    let before = served (at_key old key) serves in
+    let after = served (at_key new key) serves_too in
+    held_by old new before.tablet after.tablet key is (events_are events old new is lead) before.there after.there
+    (events_held broker events old new key before.tablet after.tablet is faithful honest lead before.there after.there after.serves)

@@ -1,13 +1,27 @@
--- What new marks have taken.
-use Rattle.std.proofs.Common.{◌≡◌, ℕ, zero, suc, ◌+◌, ◌<◌, ◌≤◌, max, pred, Bool, true, false, cond, nat_lt, is_eq, List, [], ◌∷◌, length, get_or, Some, None, unwrap_or, refl, sym, ap, ◌∙◌, subst, arith}
-use Rattle.std.specs.Prelude.{Contains}
+-- What new marks have taken: after deliveries one after another, and where others are raised to them.
+use Rattle.std.proofs.Common.{Contains, ◌≡◌, ℕ, zero, suc, ◌+◌, ◌<◌, ◌≤◌, max, pred, Bool, true, false, cond, nat_lt, is_eq, List, [], ◌∷◌, length, get_or, Some, None, unwrap_or, refl, sym, ap, ◌∙◌, subst, arith, ◌++◌, take, drop}
+use Rattle.std.specs.Prelude.{fold}
 use Rattle.std.proofs.lemmas.Bool.Decides.{nat_tests}
 use Rattle.std.proofs.lemmas.Cmp.{nat_list_cmp_total, tied_itself}
-use Rattle.pn_join.proofs.MarksFacts.{position_of-raised_marks}
-use Rattle.pn_record.proofs.HeldRecords.{tied_keys}
+use Rattle.std.proofs.lemmas.List.Elements.{filter-append}
+use Rattle.std.proofs.lemmas.List.{take_more}
+use Rattle.pn_join.proofs.MarksFacts.{position_of-raised_marks, is_sorted-raised_marks, raised_marks-commutes, raised_marks-associates, raised_marks-repeats}
+use Rattle.pn_record.proofs.CellMaps.{tied_keys}
+use Rattle.pn_tablet.specs.Steps.{Rise}
+use Rattle.pn_stream.proofs.Published.{wider, is_up_to, published}
+use Rattle.pn_region.proofs.Common.{Positions, Reaches, position_of, Image, BrokerRecord, up_to, Result, Ok, Err, eq_by_cmp, name_cmp, DeliveryValue, with_images, last_position, with_delivery, leaves_gap, marks_after, of_few_streams, new_marks, RoundFault, Gap, TooManyStreams, raised_marks, with_deliveries}
 use Rattle.pn_region.specs.Laws.{HasPosition}
-use Rattle.pn_region.specs.Marking.{brings}
-use Rattle.pn_region.proofs.Common.{Result, Ok, Err, eq_by_cmp, Positions, Reaches, name_cmp, position_of, DeliveryValue, with_images, last_position, with_delivery, leaves_gap, marks_after, of_few_streams, new_marks, RoundFault, Gap, TooManyStreams}
+use Rattle.pn_region.specs.Rounds.{brings}
+
+-- Marks that reach others have all images that those have.
+
+-- marks that reach others have all images that those have
+pub up_to_more : (broker : BrokerRecord) (marks others : Positions) → Reaches marks others → (image : Image) → Contains (up_to broker others) image → Contains (up_to broker marks) image
+up_to_more broker marks others reach image there =
+    let old = published broker others image there in
+    is_up_to broker marks old.stream image (wider (position_of others old.stream) (position_of marks old.stream) (broker old.stream) image (reach old.stream) old.stands)
+
+-- What new marks have taken.
 
 -- the gap that it leaves
 abbrev pub gap_of : Positions → DeliveryValue → RoundFault
@@ -129,3 +143,111 @@ pub next_has_last : (marks next : Positions) (deliveries : List DeliveryValue) (
     → last_position delivery ≤ position_of next delivery.stream
 next_has_last marks next deliveries delivery is there some =
     last_taken deliveries marks next there.0 delivery there.1 there.2 some (few (marks_after marks (with_images deliveries)) next is)
+
+-- Marks after deliveries, one after another.
+
+step_on : (b : Bool) (fault : RoundFault) (rest more after : Result Positions RoundFault) (n : Positions) → (rest ≡ Ok n → more ≡ after) → cond b (Err fault) rest ≡ Ok n → cond b (Err fault) more ≡ after
+step_on true fault rest more after n next is = cc
+step_on false fault rest more after n next is = next is
+
+-- further deliveries go on from the marks of those before
+pub marks_on : (m n : Positions) (ds more : List DeliveryValue) → marks_after m ds ≡ Ok n → marks_after m (ds ++ more) ≡ marks_after n more
+marks_on m n [] more is = cc
+marks_on m n (d ∷ ds) more is =
+    step_on (leaves_gap m d) (Gap d.stream (position_of m d.stream + 1) d.first) (marks_after (with_delivery m d) ds) (marks_after (with_delivery m d) (ds ++ more)) (marks_after n more) n
+    (marks_on (with_delivery m d) n ds more) is
+
+gap_on : (b : Bool) (gap fault : RoundFault) (rest more : Result Positions RoundFault) → (rest ≡ Err fault → more ≡ Err fault) → cond b (Err gap) rest ≡ Err fault → cond b (Err gap) more ≡ Err fault
+gap_on true gap fault rest more next is = is
+gap_on false gap fault rest more next is = next is
+
+-- the first gap stays the first
+pub gap_stays : (m : Positions) (ds more : List DeliveryValue) (fault : RoundFault) → marks_after m ds ≡ Err fault → marks_after m (ds ++ more) ≡ Err fault
+gap_stays m [] more fault is = cc
+gap_stays m (d ∷ ds) more fault is =
+    gap_on (leaves_gap m d) (Gap d.stream (position_of m d.stream + 1) d.first) fault (marks_after (with_delivery m d) ds) (marks_after (with_delivery m d) (ds ++ more))
+    (gap_stays (with_delivery m d) ds more fault) is
+
+-- the marks after one more delivery
+pub marks_more : (m n after : Positions) (ds : List DeliveryValue) (i : ℕ) (d : DeliveryValue) → i < length ds → marks_after m (with_images (take i ds)) ≡ Ok n → marks_after n (with_images (get_or ds i d ∷ [])) ≡ Ok after
+    → marks_after m (with_images (take (i + 1) ds)) ≡ Ok after
+marks_more m n after ds i d within so_far next =
+    ap (λ (xs : List DeliveryValue). marks_after m (with_images xs)) (take_more ds i d within)
+    ∙ ap (marks_after m) (filter-append brings (take i ds) (get_or ds i d ∷ []))
+    ∙ marks_on m n (with_images (take i ds)) (with_images (get_or ds i d ∷ [])) so_far
+    ∙ next
+
+split_at : (ds : List DeliveryValue) (i : ℕ) → take i ds ++ drop i ds ≡ ds
+split_at ds zero = refl
+split_at [] (suc i) = refl
+split_at (d ∷ ds) (suc i) = ap (λ rest. d ∷ rest) (split_at ds i)
+
+-- a gap that is met is that of all deliveries
+pub gap_met : (m n : Positions) (ds : List DeliveryValue) (i : ℕ) (d : DeliveryValue) (fault : RoundFault) → i < length ds → marks_after m (with_images (take i ds)) ≡ Ok n → marks_after n (with_images (get_or ds i d ∷ [])) ≡ Err fault
+    → new_marks m ds ≡ Err fault
+gap_met m n ds i d fault within so_far next =
+    ap of_few_streams
+    (ap (λ (xs : List DeliveryValue). marks_after m (with_images xs)) (sym (split_at ds (i + 1)))
+    ∙ ap (marks_after m) (filter-append brings (take (i + 1) ds) (drop (i + 1) ds))
+    ∙ gap_stays m (with_images (take (i + 1) ds)) (with_images (drop (i + 1) ds)) fault
+    (ap (λ (xs : List DeliveryValue). marks_after m (with_images xs)) (take_more ds i d within)
+    ∙ ap (marks_after m) (filter-append brings (take i ds) (get_or ds i d ∷ []))
+    ∙ marks_on m n (with_images (take i ds)) (with_images (get_or ds i d ∷ [])) so_far
+    ∙ next))
+
+-- Marks that others are raised to, and marks after deliveries.
+
+-- the others have each position of the marks, or a greater one
+abbrev pub IsBelow : Positions → Positions → Type 0
+IsBelow marks others = raised_marks marks others ≡ others
+
+below_raised : (a x : Positions) → Rise a → IsBelow a (raised_marks a x)
+below_raised a x rise = sym (raised_marks-associates a a x rise) ∙ ap (λ m. raised_marks m x) (raised_marks-repeats a rise)
+
+pub below_then : (a b c : Positions) → Rise a → IsBelow a b → IsBelow b c → IsBelow a c
+below_then a b c rise first second = ap (raised_marks a) (sym second) ∙ sym (raised_marks-associates a b c rise) ∙ ap (λ m. raised_marks m c) first ∙ second
+
+-- it stays so where both are raised
+below_both : (a b x : Positions) → Rise a → Rise b → Rise x → IsBelow a b → IsBelow (raised_marks a x) (raised_marks b x)
+below_both a b x rise rise_too rise_x below =
+    let own : raised_marks x (raised_marks b x) ≡ raised_marks b x =
+    raised_marks-commutes x (raised_marks b x) rise_x (is_sorted-raised_marks b x rise_too) ∙ raised_marks-associates b x x rise_too ∙ ap (raised_marks b) (raised_marks-repeats x rise_x) in
+    raised_marks-associates a x (raised_marks b x) rise ∙ ap (raised_marks a) own ∙ sym (raised_marks-associates a b x rise) ∙ ap (λ m. raised_marks m x) below
+
+pub marked_rise : (ds : List DeliveryValue) (m : Positions) → Rise m → Rise (fold with_delivery m ds)
+marked_rise [] m rise = rise
+marked_rise (d ∷ ds) m rise = marked_rise ds (with_delivery m d) (is_sorted-raised_marks m ((d.stream, last_position d) ∷ []) rise)
+
+pub marked_above : (ds : List DeliveryValue) (m : Positions) → Rise m → IsBelow m (fold with_delivery m ds)
+marked_above [] m rise = raised_marks-repeats m rise
+marked_above (d ∷ ds) m rise =
+    let more = (d.stream, last_position d) ∷ [] in
+    below_then m (with_delivery m d) (fold with_delivery (with_delivery m d) ds) rise (below_raised m more rise) (marked_above ds (with_delivery m d) (is_sorted-raised_marks m more rise))
+
+pub marked_both : (ds : List DeliveryValue) (a b : Positions) → Rise a → Rise b → IsBelow a b → IsBelow (fold with_delivery a ds) (fold with_delivery b ds)
+marked_both [] a b rise rise_too below = below
+marked_both (d ∷ ds) a b rise rise_too below =
+    let more = (d.stream, last_position d) ∷ [] in
+    marked_both ds (with_delivery a d) (with_delivery b d) (is_sorted-raised_marks a more rise) (is_sorted-raised_marks b more rise_too) (below_both a b more rise rise_too refl below)
+
+marks_are : (ds : List DeliveryValue) (m next : Positions) → marks_after m ds ≡ Ok next → next ≡ fold with_delivery m ds
+marks_are [] m next is = cc
+marks_are (d ∷ ds) m next is = marks_are ds (with_delivery m d) next (accepted (leaves_gap m d) (gap_of m d) (marks_after (with_delivery m d) ds) next is).1
+
+-- new marks are those after all deliveries
+pub new_are : (marks next : Positions) (deliveries : List DeliveryValue) → new_marks marks deliveries ≡ Ok next → next ≡ with_deliveries marks deliveries
+new_are marks next deliveries is = marks_are (with_images deliveries) marks next (few (marks_after marks (with_images deliveries)) next is)
+
+module _ (marks next : Positions) (deliveries : List DeliveryValue) (is : new_marks marks deliveries ≡ Ok next) (rise : Rise marks) where
+  pub new_rise : Rise next
+  new_rise = subst Rise (sym (new_are marks next deliveries is)) (marked_rise (with_images deliveries) marks rise)
+
+  pub new_above : IsBelow marks next
+  new_above = subst (IsBelow marks) (sym (new_are marks next deliveries is)) (marked_above (with_images deliveries) marks rise)
+
+-- marks that are above others are so after the same deliveries
+pub new_both : (a b next later : Positions) (deliveries : List DeliveryValue) → new_marks a deliveries ≡ Ok next → new_marks b deliveries ≡ Ok later → Rise a → Rise b → IsBelow a b → IsBelow next later
+new_both a b next later deliveries is is_too rise rise_too below =
+    let first = new_are a next deliveries is in
+    let second = new_are b later deliveries is_too in
+    (λ i. raised_marks (first i) (second i)) ∙ marked_both (with_images deliveries) a b rise rise_too below ∙ sym second

@@ -4,22 +4,20 @@ use Rattle.std.specs.Prelude.{IsOk, OnOk}
 use Rattle.std.specs.Option.{option_and_then}
 use Rattle.std.proofs.lemmas.List.Elements.{filter-append}
 use Rattle.std.proofs.lemmas.List.Quantifiers.{position-Some}
-use Rattle.pn_record.specs.CellMap.{adds}
-use Rattle.pn_tablet.specs.Refusals.{Refuses}
-use Rattle.pn_tablet.specs.Steps.{with_join, is_memory}
+use Rattle.pn_record.specs.Cells.{adds}
+use Rattle.pn_tablet.specs.Steps.{Refuses, with_join, is_memory}
 use Rattle.pn_tablet.specs.Steps as steps
 use Rattle.pn_tablet.specs.declared.fault.OpFault.{OpFault}
 use Rattle.pn_tablet.specs.declared.fault.OpFault.TheVariants as op
 use Rattle.pn_tablet.proofs.Keeping.{spelled_adds, spelled_nil}
-use Rattle.pn_tablet.proofs.Stepping.{one_range}
+use Rattle.pn_tablet.proofs.JoinLaws.{one_range}
 use Rattle.pn_tablet.proofs.TabletLaws.{adopted}
 use Rattle.pn_apply.proofs.ReduceLaws.{cells_inside}
 use Rattle.pn_region.specs.Recovery.{after_op, lacks, after_adoption_unless, after_adoption}
 use Rattle.pn_region.specs.Regions.{IsLawfulRegion}
 use Rattle.pn_region.proofs.Common.{Positions, Image, spell, Entries, table_of, TabletCopyValue, need_shortfall, Ends, in_range, step, after_step, tablet_after, TabletStateValue, empty_tablet, lie_in, same_range, Shortfall, TabletOp, Join, Lose, Adopt, tablets_after_op, tablet_for, after_adoption_by, RegionValue, IsTabletOf, AreTabletsOf, IsRegion}
-use Rattle.pn_region.proofs.NewRegion.{tablet_at}
-use Rattle.pn_region.proofs.RoundSteps.{old_reached, both_reached}
-use Rattle.pn_region.proofs.Spelled.{spelled_inside}
+use Rattle.pn_region.proofs.RoundSteps.{tablet_at, old_reached, both_reached}
+use Rattle.pn_region.proofs.Pieces.{spelled_inside}
 
 -- the keys of a copy that is adopted lie in its range
 abbrev pub IsWhole : TabletOp → Type 0

@@ -1,14 +1,16 @@
--- The least cover and the greatest reach of parts.
+-- The least cover and the greatest reach of parts, which are a region where they fit.
 use Rattle.std.proofs.Common.{◌≡◌, ℕ, zero, suc, ◌+◌, ◌<◌, Bool, true, false, cond, List, [], ◌∷◌, ◌++◌, length, take, get_or, slice_get, Option, Some, None, unwrap_or, option_map, refl, sym, ap, ◌∙◌, subst, append-nil, arith, IsTrue}
 use Rattle.std.specs.Prelude.{filter, fold}
 use Rattle.std.proofs.lemmas.List.Elements.{filter_more}
 use Rattle.std.proofs.lemmas.List.Sums.{fold-append}
 use Rattle.pn_join.specs.Marks.{least_marks}
-use Rattle.pn_join.proofs.LeastFacts.{position_of-least_marks, are_positions-least_marks}
-use Rattle.pn_join.proofs.MarksFacts.{position_of-raised_marks}
-use Rattle.pn_tablet.specs.Ranges.{meet}
-use Rattle.pn_region.specs.Relayouts.{parts_of, least_cover, greatest_reach}
-use Rattle.pn_region.proofs.Common.{AllByRecursion, Positions, Reaches, position_of, raised_marks, are_positions, Ends, TabletStateValue, AreTabletsOf}
+use Rattle.pn_join.proofs.MarksFacts.{position_of-least_marks, are_positions-least_marks, position_of-raised_marks}
+use Rattle.pn_tablet.specs.Layouts.{meet}
+use Rattle.pn_region.specs.Recovery.{parts_of, least_cover, greatest_reach}
+use Rattle.pn_region.proofs.Common.{AllByRecursion, Positions, Reaches, position_of, raised_marks, are_positions, Ends, TabletStateValue, AreTabletsOf, lie_in, IsSound}
+use Rattle.pn_region.specs.Regions.{ArePartsOf}
+
+-- The least cover and the greatest reach of parts.
 
 abbrev pub lesser : Positions → TabletStateValue → Positions
 lesser cover part = least_marks cover part.cover
@@ -163,3 +165,24 @@ module _ (range : Ends) (ts : List TabletStateValue) (i : ℕ) (t : TabletStateV
   reached_step own both meets so_far one reached =
       subst (λ (reach : Positions). Reaches reach (least_cover after)) (sym (one ∙ ap (λ (reach : Positions). raised_marks reach t.reach) so_far))
       (subst (λ (parts : List TabletStateValue). Reaches (raised_marks (greatest_reach before) t.reach) (least_cover parts)) (sym (added meets)) (more_reached before t reached))
+
+-- Parts that fit are a region.
+
+pub all_more : {A : Type 0} (P : A → Type 0) (xs : List A) (x : A) → AllByRecursion P xs → P x → AllByRecursion P (xs ++ x ∷ [])
+all_more P [] x all one = (one, tt)
+all_more P (y ∷ ys) x all one = (all.0, all_more P ys x all.1 one)
+
+pub parts_are_tablets : (marks : Positions) (rs : List Ends) (ts : List TabletStateValue) → ArePartsOf marks rs ts → AllByRecursion IsSound ts → AreTabletsOf marks rs ts
+parts_are_tablets marks [] [] are sound = tt
+parts_are_tablets marks [] (t ∷ ts) are sound = absurd are
+parts_are_tablets marks (r ∷ rs) [] are sound = absurd are
+parts_are_tablets marks (r ∷ rs) (t ∷ ts) are sound = (
+  record {
+    range = are.0.range;
+    inside = subst (λ (ends : Ends). IsTrue (lie_in ends t.cells)) are.0.range sound.0.inside;
+    spelled = sound.0.spelled;
+    covered = are.0.covered;
+    reached = sound.0.reached;
+  },
+  parts_are_tablets marks rs ts are.1 sound.1,
+)

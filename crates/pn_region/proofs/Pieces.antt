@@ -1,13 +1,58 @@
--- Maps whose keys lie in ranges that are apart, one after another.
-use Rattle.std.proofs.Common.{◌≡◌, ℕ, Bool, true, false, cond, List, [], ◌∷◌, ◌++◌, Option, Some, None, refl, sym, ap, ◌∙◌}
-use Rattle.std.specs.Prelude.{zip}
+-- Maps whose keys lie in ranges that are apart, one after another; ranges that meet; and images that spell such maps.
+use Rattle.std.proofs.Common.{◌≡◌, ℕ, zero, suc, ◌+◌, ◌<◌, ◌≤◌, true, false, List, [], ◌∷◌, length, map, refl, arith, Bool, cond, ◌++◌, Option, Some, None, sym, ap, ◌∙◌, not, ◌&&◌, Less, Equal, Greater, is_lt, ◌-◌, take, drop, get_or, subst, append-nil, IsTrue}
+use Rattle.std.specs.Prelude.{zip, slice_range}
 use Rattle.std.specs.List.{filter_map}
-use Rattle.std.proofs.lemmas.List.Elements.{filter_map-append}
-use Rattle.pn_record.proofs.Sorted.{first_true, second_true}
-use Rattle.pn_record.proofs.HeldRecords.{tied_keys}
-use Rattle.pn_tablet.specs.Changes.{change_of}
-use Rattle.pn_region.proofs.Common.{eq_by_cmp, flat_map, find, Positions, bytes_cmp, CellValue, Entries, Ends, in_range, TabletStateValue, lie_in, changes, Change, AreTabletsOf}
-use Rattle.pn_region.proofs.Apart.{Outside, Apart}
+use Rattle.std.proofs.lemmas.List.Elements.{filter_map-append, filter-append}
+use Rattle.std.proofs.lemmas.Bool.{and_parts}
+use Rattle.std.proofs.lemmas.Cmp.{nat_list_cmp_total}
+use Rattle.std.proofs.lemmas.Grind.{flat_map-append}
+use Rattle.std.proofs.lemmas.List.{take_all, take_more}
+use Rattle.std.specs.FinMap.{keys}
+use Rattle.pn_join.proofs.Rising.{Rising, Rising-from_sorted, sorted_from_Rising, Rising-prefix}
+use Rattle.pn_record.proofs.Sorted.{first_true, second_true, is_less}
+use Rattle.pn_record.proofs.CellMaps.{tied_keys}
+use Rattle.pn_record.specs.Sets.{CellValue}
+use Rattle.pn_record.specs.Limits.{ContentValue}
+use Rattle.pn_record.specs.Cells.{spell_cell, adds}
+use Rattle.pn_tablet.proofs.LayoutFacts.{tablet_of_key}
+use Rattle.pn_tablet.specs.Steps.{change_of}
+use Rattle.pn_tablet.specs.Layouts.{is_below, is_from, is_before, are_ends, meet}
+use Rattle.pn_apply.proofs.Tables.{entries_that, sorted_that}
+use Rattle.pn_apply.proofs.ReduceLaws.{range_joins}
+use Rattle.pn_region.proofs.Common.{range_with_len, Ends, in_range, Bounds, IsLayout, tablet_ends, ranges, eq_by_cmp, flat_map, find, Positions, bytes_cmp, Entries, TabletStateValue, lie_in, changes, Change, AreTabletsOf, is_sorted, Image, Stamp, spell, table_of, images_in}
+
+-- The ranges of a layout have no key in common.
+
+-- no key of the others is in the range
+abbrev pub Outside : Ends → List Ends → Type 0
+Outside range [] = Unit {0}
+Outside range (other ∷ others) = ((key : List ℕ) → in_range other key ≡ true → in_range range key ≡ false) × Outside range others
+
+-- no two have a key in common
+abbrev pub Apart : List Ends → Type 0
+Apart [] = Unit {0}
+Apart (range ∷ others) = Outside range others × Apart others
+
+module _ (bounds : Bounds) (lawful : IsLayout bounds) where
+  outside_one : (t a : ℕ) → t < a → a ≤ length bounds → (key : List ℕ) → in_range (tablet_ends bounds a) key ≡ true → in_range (tablet_ends bounds t) key ≡ false
+  outside_one t a before within key lies =
+      elim (in_range (tablet_ends bounds t) key) as (λ b. in_range (tablet_ends bounds t) key ≡ b → b ≡ false) [
+        | true ↦ λ too. absurd (omega (arith, before, tablet_of_key bounds key a lawful.rising within lies, tablet_of_key bounds key t lawful.rising (omega (arith, before, within)) too))
+        | false ↦ λ no. refl
+      ] refl
+
+  outside_from : (t a n : ℕ) → t < a → a + n ≤ length bounds + 1 → Outside (tablet_ends bounds t) (map (tablet_ends bounds) (range_with_len a n))
+  outside_from t a zero before within = tt
+  outside_from t a (suc n) before within = (outside_one t a before (omega (arith, within)), outside_from t (a + 1) n (omega (arith, before)) (omega (arith, within)))
+
+  apart_from : (a n : ℕ) → a + n ≤ length bounds + 1 → Apart (map (tablet_ends bounds) (range_with_len a n))
+  apart_from a zero within = tt
+  apart_from a (suc n) within = (outside_from a (a + 1) n (omega arith) (omega (arith, within)), apart_from (a + 1) n (omega (arith, within)))
+
+  pub ranges_apart : Apart (ranges bounds)
+  ranges_apart = apart_from 0 (length bounds + 1) (omega arith)
+
+-- Maps whose keys lie in ranges that are apart, one after another.
 
 -- the cells of tablets together
 abbrev pub cells_of : List TabletStateValue → Entries
@@ -107,3 +152,112 @@ changes_by_tablet marks later (r ∷ rs) (t ∷ ts) (u ∷ us) apart are too =
     ∙ (λ i. changes_alike r whole t.cells u.cells too.0.inside (λ key lies. found_before key t.cells (cells_of ts) (none_there marks r rs ts apart.0 are.1 key lies)) i
     ++ (changes_after later rs whole (cells_of ts) us too.1 (alike_after r rs t.cells (cells_of ts) are.0.inside apart.0)
     ∙ changes_by_tablet marks later rs ts us apart.1 are.1 too.1) i)
+
+-- Ranges that have a key in common meet.
+
+from_above : (from to key : List ℕ) → not (is_below key from) ≡ true → is_below key to ≡ true → is_below from to ≡ true
+from_above from to key above below =
+    elim (bytes_cmp from key) as (λ o. bytes_cmp from key ≡ o → is_below from to ≡ true) [
+      | Less ↦ λ is. ap is_lt (nat_list_cmp_total.trans from key to is (is_less (bytes_cmp key to) below))
+      | Equal ↦ λ is. ap is_lt (nat_list_cmp_total.congr from key to is) ∙ below
+      | Greater ↦ λ is.
+          let back = nat_list_cmp_total.antisymm key from in
+          cc
+    ] refl
+
+-- an end that a key has reached is before one that it has not
+in_order : (from to : Option (List ℕ)) (key : List ℕ) → is_from from key ≡ true → is_before to key ≡ true → are_ends (from, to) ≡ true
+in_order None to key above below = refl
+in_order (Some from) None key above below = refl
+in_order (Some from) (Some to) key above below = from_above from to key above below
+
+both_pass : (x y : Bool) → x ≡ true → y ≡ true → (x && y) ≡ true
+both_pass true y passes passes_too = passes_too
+both_pass false y passes passes_too = cc
+
+pub both_in_meet : (a b : Ends) (key : List ℕ) → in_range a key ≡ true → in_range b key ≡ true → meet a b ≡ true
+both_in_meet a b key lies lies_too =
+    let own = and_parts _ _ lies in
+    let other = and_parts _ _ lies_too in
+    both_pass (are_ends (a.0, b.1)) (are_ends (b.0, a.1)) (in_order a.0 b.1 key own.0 other.1) (in_order b.0 a.1 key other.0 own.1)
+
+-- The cells of tablets in a range, one tablet after another.
+
+-- one tablet more has its own cells more
+pub cells_more : (r : Ends) (ts : List TabletStateValue) (i : ℕ) (t : TabletStateValue) → i < length ts → get_or ts i t ≡ t
+    → entries_that (in_range r) (cells_of (take (i + 1) ts)) ≡ entries_that (in_range r) (cells_of (take i ts)) ++ entries_that (in_range r) t.cells
+cells_more r ts i t within is =
+    let more : take (i + 1) ts ≡ take i ts ++ t ∷ [] = take_more ts i t within ∙ ap (λ (u : TabletStateValue). take i ts ++ u ∷ []) is in
+    ap (λ (us : List TabletStateValue). entries_that (in_range r) (cells_of us)) more
+    ∙ ap (entries_that (in_range r)) (flat_map-append (λ (u : TabletStateValue). u.cells) (take i ts) (t ∷ []) ∙ ap (λ (es : Entries). cells_of (take i ts) ++ es) (append-nil t.cells))
+    ∙ filter-append (λ (e : List ℕ × CellValue). in_range r e.0) (cells_of (take i ts)) t.cells
+
+-- a tablet whose range does not meet the range has none there
+none_kept : (r own : Ends) (es : Entries) → meet own r ≡ false → lie_in own es ≡ true → entries_that (in_range r) es ≡ []
+none_kept r own [] apart inside = refl
+none_kept r own (e ∷ es) apart inside =
+    let here = first_true (in_range own e.0) (lie_in own es) inside in
+    let later = none_kept r own es apart (second_true (in_range own e.0) (lie_in own es) inside) in
+    elim (in_range r e.0) as (λ b. in_range r e.0 ≡ b → cond b (e ∷ entries_that (in_range r) es) (entries_that (in_range r) es) ≡ []) [
+      | true ↦ λ lies.
+          let both = both_in_meet own r e.0 here lies in
+          cc
+      | false ↦ λ outside. later
+    ] refl
+
+pub cells_skipped : (r : Ends) (ts : List TabletStateValue) (i : ℕ) (t : TabletStateValue) → i < length ts → get_or ts i t ≡ t → meet t.range r ≡ false → lie_in t.range t.cells ≡ true
+    → entries_that (in_range r) (cells_of (take (i + 1) ts)) ≡ entries_that (in_range r) (cells_of (take i ts))
+cells_skipped r ts i t within is apart inside =
+    cells_more r ts i t within is
+    ∙ ap (λ (es : Entries). entries_that (in_range r) (cells_of (take i ts)) ++ es) (none_kept r t.range t.cells apart inside)
+    ∙ append-nil (entries_that (in_range r) (cells_of (take i ts)))
+
+first_and_rest : (i : ℕ) (ts : List TabletStateValue) → take i ts ++ drop i ts ≡ ts
+first_and_rest zero ts = refl
+first_and_rest (suc i) [] = refl
+first_and_rest (suc i) (t ∷ ts) = ap (λ (rest : List TabletStateValue). t ∷ rest) (first_and_rest i ts)
+
+-- the cells of the first tablets rise where those of all do
+pub first_rise : (r : Ends) (ts : List TabletStateValue) (i : ℕ) → IsTrue (is_sorted bytes_cmp (cells_of ts)) → IsTrue (is_sorted bytes_cmp (entries_that (in_range r) (cells_of (take i ts))))
+first_rise r ts i rise =
+    let parts : cells_of ts ≡ cells_of (take i ts) ++ cells_of (drop i ts) =
+    ap cells_of (sym (first_and_rest i ts)) ∙ flat_map-append (λ (u : TabletStateValue). u.cells) (take i ts) (drop i ts) in
+    sorted_that (in_range r) (cells_of (take i ts))
+    (sorted_from_Rising bytes_cmp (cells_of (take i ts))
+    (Rising-prefix bytes_cmp (cells_of (take i ts)) (cells_of (drop i ts)) (subst (Rising bytes_cmp) parts (Rising-from_sorted bytes_cmp (cells_of ts) rise))))
+
+-- a whole slice
+pub whole_slice : (es : Entries) (n : ℕ) → n ≡ length es → slice_range es 0 n ≡ es
+whole_slice es n is = take_all (n - 0) es (omega (arith, is))
+
+-- with those of one tablet more they rise too
+pub more_rise : (r : Ends) (ts : List TabletStateValue) (i : ℕ) (t : TabletStateValue) → i < length ts → t ≡ get_or ts i t → (so_far : Entries) → so_far ≡ entries_that (in_range r) (cells_of (take i ts))
+    → IsTrue (is_sorted bytes_cmp (cells_of ts)) → IsTrue (is_sorted bytes_cmp (so_far ++ entries_that (in_range r) t.cells))
+more_rise r ts i t within is so_far before rise =
+    subst (λ (es : Entries). IsTrue (is_sorted bytes_cmp es)) (cells_more r ts i t within (sym is) ∙ ap (λ (es : Entries). es ++ entries_that (in_range r) t.cells) (sym before)) (first_rise r ts (i + 1) rise)
+
+-- The images that spell a map whose keys lie in a range.
+
+-- images of one key are in its range
+own_images : (range : Ends) (key : List ℕ) (version : Stamp) (contents : List ContentValue) → in_range range key ≡ true
+    → images_in range (map (λ shown. record { key = key; version = version; content = shown }) contents) ≡ map (λ shown. record { key = key; version = version; content = shown }) contents
+own_images range key version [] lies = refl
+own_images range key version (shown ∷ contents) lies =
+    let image : Image = record { key = key; version = version; content = shown } in
+    let rest = map (λ (shown : ContentValue). record { key = key; version = version; content = shown }) contents in
+    ap (λ (b : Bool). cond b (image ∷ images_in range rest) (images_in range rest)) lies ∙ ap (λ (images : List Image). image ∷ images) (own_images range key version contents lies)
+
+-- what spells a map in the range lies there
+pub spelled_inside : (range : Ends) (es : Entries) → lie_in range es ≡ true → images_in range (spell es) ≡ spell es
+spelled_inside range [] inside = refl
+spelled_inside range (e ∷ es) inside =
+    filter-append (λ (image : Image). in_range range image.key) (spell_cell e) (spell es)
+    ∙ (λ i. own_images range e.0 e.1.0 (keys e.1.1) (first_true (in_range range e.0) (lie_in range es) inside) i
+    ++ spelled_inside range es (second_true (in_range range e.0) (lie_in range es) inside) i)
+
+-- a map in the range that takes the cells of images there
+pub taken_inside : (range : Ends) (es : Entries) (images : List Image) → es ≡ table_of (spell es) → lie_in range es ≡ true
+    → adds es (spell (table_of (images_in range images))) ≡ table_of (images_in range (spell es ++ images))
+taken_inside range es images spelled inside =
+    ap (λ (m : Entries). adds m (spell (table_of (images_in range images)))) (spelled ∙ ap table_of (sym (spelled_inside range es inside)))
+    ∙ range_joins range (spell es) images

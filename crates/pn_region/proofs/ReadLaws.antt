@@ -1,22 +1,24 @@
--- The laws of reads of regions.
-use Rattle.std.proofs.Common.{◌≡◌, ◌≢◌, ℕ, zero, suc, ◌+◌, true, false, cond, List, [], ◌∷◌, ◌++◌, length, map, slice_get, Option, Some, None, Ok, Err, refl, sym, ap, ◌∙◌, arith, zero-add}
+-- The laws of reads of regions, and of the pages of an unchanged one.
+use Rattle.std.proofs.Common.{◌≡◌, ◌≢◌, ℕ, zero, suc, ◌+◌, true, false, cond, List, [], ◌∷◌, ◌++◌, length, map, slice_get, Option, Some, None, Ok, Err, refl, sym, ap, ◌∙◌, arith, zero-add, ◌<◌, subst, append-nil, IsTrue}
+use Rattle.pn_join.proofs.Rising.{Rising, Rising-from_sorted}
 use Rattle.pn_json.specs.Answers.{◌>>=◌}
-use Rattle.pn_tablet.specs.Changes.{version_at}
+use Rattle.pn_tablet.specs.Steps.{version_at}
 use Rattle.pn_tablet.specs.declared.state.Status.{Status}
 use Rattle.pn_scan.specs.Queries.{QueryValue}
 use Rattle.pn_scan.specs.Shown.{shown_rows}
-use Rattle.pn_scan.specs.Candidates.{Look, cells_in}
-use Rattle.pn_scan.specs.Pages.{refusal_by, unless}
-use Rattle.pn_scan.specs.Reads.{reaches, unless_behind, read_of}
-use Rattle.pn_scan.specs.declared.fault.ScanFault.{ScanFault}
-use Rattle.pn_scan.specs.declared.fault.ScanFault.TheVariants as fault
-use Rattle.pn_scan.proofs.WalkLaws.{page_of_cells}
-use Rattle.pn_region.specs.Reads.{read_in}
-use Rattle.pn_region.proofs.Common.{IsSome, AllByRecursion, flat_map, range_with_len, find, option_or, Entries, bytes_cmp, Stamp, CellValue, tablet_of, TabletStateValue, Serving, Recovering, refusal, first_refusal, first_page, RegionValue, IsRegion, all_cells, look_for, all_looks, get_in, page_in, AllServe}
-use Rattle.pn_region.proofs.KeyTablets.{has_tablet, has_its_cell}
-use Rattle.pn_region.proofs.NewRegion.{tablet_count}
+use Rattle.pn_scan.specs.Pages.{Look, cells_in, refusal_by, unless, PageValue}
+use Rattle.pn_scan.specs.Views.{reaches, unless_behind, read_of, ArePages, left_by, rows_of, rows_left}
+use Rattle.pn_scan.specs.declared.view.ScanFault.{ScanFault}
+use Rattle.pn_scan.proofs.WalkLaws.{page_of_cells, IsCutFrom, all_walked, page_cut, walked, walk_ends, AllAfter, cut_rise}
+use Rattle.pn_scan.specs.declared.view.ScanFault.TheVariants as fault
+use Rattle.pn_region.specs.Reads.{read_in, IsAnswered, IsAnsweredOf, ArePagesOf}
+use Rattle.pn_region.proofs.Common.{IsSome, AllByRecursion, flat_map, range_with_len, find, option_or, Entries, bytes_cmp, Stamp, CellValue, tablet_of, TabletStateValue, Serving, Recovering, refusal, first_refusal, first_page, RegionValue, IsRegion, all_cells, look_for, all_looks, get_in, page_in, AllServe, is_sorted}
+use Rattle.pn_region.proofs.Standing.{has_tablet, has_its_cell, keys_entered, page_entered}
+use Rattle.pn_region.proofs.RoundSteps.{tablet_count}
 use Rattle.pn_region.proofs.Pieces.{cells_of}
-use Rattle.pn_region.proofs.Standing.{keys_entered, page_entered}
+use Rattle.pn_region.proofs.TakenImages.{all_rising}
+
+-- The laws of reads of regions.
 
 not_behind : (wanted : Option Stamp) (cell : Option CellValue) → unless_behind wanted cell ≢ Err fault.NoEntry
 not_behind wanted cell =
@@ -121,3 +123,42 @@ module _ (region : RegionValue) (is : IsRegion region) where
     page_of_all query =
         page_of_cells region.layout query (all_looks region) none_recovering
         ∙ ap (λ (cells : Entries). Ok (first_page query (shown_rows query cells))) all_together
+
+-- The pages of an unchanged region.
+
+module _ (region : RegionValue) (is : IsRegion region) where
+  rises : Rising bytes_cmp (flat_map (λ (look : Look). cells_in look.1) (all_looks region))
+  rises = Rising-from_sorted bytes_cmp _ (subst (λ (cells : Entries). IsTrue (is_sorted bytes_cmp cells)) (sym (all_together region is)) (all_rising region is))
+
+  pub pages_walked : (query : QueryValue) (pages : List PageValue) → 0 < query.limit → ArePagesOf region (Some query) pages → left_by (Some query) pages ≡ None → rows_of pages ≡ shown_rows query (all_cells region)
+  pages_walked query pages some are none =
+      sym (append-nil (rows_of pages))
+      ∙ ap (λ (left : Option QueryValue). rows_of pages ++ rows_left (all_looks region) left) (sym none)
+      ∙ walked (all_looks region) rises region.layout query pages some are
+      ∙ ap (shown_rows query) (all_together region is)
+
+  pub pages_end : (query : QueryValue) → AllServe region → 0 < query.limit → (pages : List PageValue) × ArePagesOf region (Some query) pages × (left_by (Some query) pages ≡ None)
+  pages_end query serve some = walk_ends region.layout (all_looks region) rises (none_recovering region is serve) query some
+
+module _ (region : RegionValue) (is : IsRegion region) where
+  -- a page that the region answers is the first of the rows of its cells
+  page_of_all_cells : (query : QueryValue) (page : PageValue) → page_in region query ≡ Ok page → IsCutFrom (all_cells region) query page
+  page_of_all_cells query page answered =
+      subst (λ (cells : Entries). IsCutFrom cells query page) (all_together region is) (page_cut region.layout (all_looks region) query page answered)
+
+-- while cells stay the same, pages have all rows
+pub pages_of_cells : (cells : Entries) (query : QueryValue) (pages : List PageValue) → 0 < query.limit → ArePages (IsAnsweredOf cells) (Some query) pages → left_by (Some query) pages ≡ None → rows_of pages ≡ shown_rows query cells
+pages_of_cells cells query [] some are none = absurd (cc)
+pages_of_cells cells query (page ∷ pages) some are none =
+    let (region, is, same, answered) = are.0 in
+    let rises : Rising bytes_cmp cells = subst (Rising bytes_cmp) same (Rising-from_sorted bytes_cmp (all_cells region) (all_rising region is)) in
+    all_walked cells rises (IsAnsweredOf cells)
+    (λ asked next it. subst (λ (es : Entries). IsCutFrom es asked next) it.2 (page_of_all_cells it.0 it.1 asked next it.3))
+    query (page ∷ pages) some are none
+
+-- and keys rise in any case
+pub answered_rise : (query : QueryValue) (pages : List PageValue) → 0 < query.limit → ArePages IsAnswered (Some query) pages → Rising bytes_cmp (rows_of pages) × AllAfter query.after (rows_of pages)
+answered_rise query pages some are =
+    cut_rise IsAnswered
+    (λ asked page it. (all_cells it.0, Rising-from_sorted bytes_cmp (all_cells it.0) (all_rising it.0 it.1), page_of_all_cells it.0 it.1 asked page it.2))
+    (Some query) pages some are

@@ -1,4 +1,4 @@
--- Regions after a change of layout.
+-- Regions after a change of layout, and the images that their tablets have.
 use Rattle.std.proofs.Common.{◌≡◌, ℕ, zero, suc, ◌+◌, ◌<◌, ◌≤◌, Bool, true, false, cond, nat_lt, List, [], ◌∷◌, length, map, get_or, slice_get, Option, Some, None, Ok, refl, sym, ap, ◌∙◌, subst, arith, is_lt}
 use Rattle.std.specs.List.{position_or_len}
 use Rattle.std.proofs.lemmas.Bool.Decides.{nat_tests}
@@ -6,22 +6,23 @@ use Rattle.std.proofs.lemmas.Cmp.{nat_list_cmp_total, tied_itself}
 use Rattle.std.proofs.lemmas.List.Folds.{flat_map-map}
 use Rattle.std.proofs.lemmas.List.Sums.{fails_before_first}
 use Rattle.pn_record.proofs.CellMaps.{spelled_table}
-use Rattle.pn_tablet.specs.Laws.{IsSpelled}
-use Rattle.pn_tablet.specs.Ranges.{is_below, is_before, are_ends, meet}
+use Rattle.pn_tablet.specs.Steps.{IsSpelled}
+use Rattle.pn_tablet.specs.Layouts.{is_below, is_before, are_ends, meet}
 use Rattle.pn_tablet.specs.declared.state.Status.{Status}
 use Rattle.pn_tablet.proofs.LayoutFacts.{key_in_tablet, tablet_of_within, ends_in_order}
-use Rattle.pn_apply.proofs.Cuts.{all_pieces}
-use Rattle.pn_apply.proofs.Tables.{entries_that, table_that, all_that}
-use Rattle.pn_region.specs.Relayouts.{made_of, parts_of, with_layout, with_layout_unless, after_relayout, is_recovering, first_recovering}
-use Rattle.pn_region.proofs.Common.{find, IsSome, AllByRecursion, range_with_len, Reaches, bytes_cmp, spell, Bounds, IsLayout, Ends, in_range, tablet_of, tablet_ends, TabletStateValue, Serving, Recovering, ranges, RegionValue, IsTabletOf, AreTabletsOf, IsRegion, all_cells, AllServe}
-use Rattle.pn_region.proofs.FoundIn.{found_in}
-use Rattle.pn_region.proofs.KeyTablets.{range_at, has_tablet, has_its_cell}
-use Rattle.pn_region.proofs.Meeting.{both_in_meet}
-use Rattle.pn_region.proofs.NewRegion.{tablet_count}
-use Rattle.pn_region.proofs.Ordered.{all_spelled, all_rising}
+use Rattle.pn_apply.proofs.Tables.{all_pieces, entries_that, table_that, all_that}
+use Rattle.pn_region.specs.Recovery.{made_of, parts_of, with_layout, with_layout_unless, after_relayout, is_recovering, first_recovering}
+use Rattle.pn_region.proofs.Common.{find, IsSome, AllByRecursion, range_with_len, Reaches, bytes_cmp, spell, Bounds, IsLayout, Ends, in_range, tablet_of, tablet_ends, TabletStateValue, Serving, Recovering, ranges, RegionValue, IsTabletOf, AreTabletsOf, IsRegion, all_cells, AllServe, Positions, Image, HasBetween}
+use Rattle.pn_region.proofs.KeptRecords.{found_in}
+use Rattle.pn_region.proofs.Standing.{range_at, has_tablet, has_its_cell, state_at}
+use Rattle.pn_region.proofs.Pieces.{both_in_meet}
+use Rattle.pn_region.proofs.RoundSteps.{tablet_count}
+use Rattle.pn_region.proofs.TakenImages.{all_spelled, all_rising}
 use Rattle.pn_region.proofs.PartMarks.{least_below, greatest_above, least_reaches, reached_by_all, all_kept, kept_at, covers_reach, reaches_reach}
-use Rattle.pn_region.proofs.Standing.{state_at}
 pub use Rattle.pn_region.proofs.United.{united, IsOf, from_united, to_united, united_cells}
+use Rattle.pn_region.specs.Laws.{IsBetween, HoldsBetween, AllHoldBetween}
+
+-- Regions after a change of layout.
 
 -- what is known of a change of layout
 pub record Relays (old : RegionValue) (bounds : Bounds) (new : RegionValue) : Type 0 where
@@ -193,3 +194,41 @@ module _ (region : RegionValue) (bounds : Bounds) (lawful : IsLayout bounds) (is
 -- the region is one in the new layout
 pub relaid_is : (region : RegionValue) (bounds : Bounds) → IsLayout bounds → IsRegion region → IsRegion (with_layout region bounds)
 relaid_is region bounds lawful is = record { lawful = lawful; tablets = made_from region bounds lawful is 0 (length bounds + 1) (omega arith) }
+
+-- A change of layout leaves the images that tablets have between the sure ones and others.
+
+module _ (sure maybe : List Image) where
+  -- it has such images in its own range
+  abbrev Between : TabletStateValue → Type 0
+  Between t = HoldsBetween sure maybe t.range t.cells
+
+  abbrev own : (t : TabletStateValue) → Between t → List Image
+  own t between = between.0
+
+  each_between : (marks : Positions) (rs : List Ends) (ts : List TabletStateValue) → AreTabletsOf marks rs ts → AllHoldBetween sure maybe rs ts → AllByRecursion Between ts
+  each_between marks [] [] are has = tt
+  each_between marks [] (t ∷ ts) are has = absurd are
+  each_between marks (r ∷ rs) [] are has = absurd are
+  each_between marks (r ∷ rs) (t ∷ ts) are has = (subst (λ (range : Ends). HoldsBetween sure maybe range t.cells) (sym are.0.range) has.0, each_between marks rs ts are.1 has.1)
+
+  module _ (region : RegionValue) (is : IsRegion region) (all : AllByRecursion Between region.tablets) where
+    abbrev all_own : List Image
+    all_own = united Between own region.tablets all
+
+    between : IsBetween sure maybe all_own
+    between = record {
+      all = λ image there.
+          let part = part_at region is (None, None) image.key refl in
+          to_united Between own region.tablets all part.1.n part.0 part.1.there image (λ (one : Between part.0). one.1.all image there) part.1.lies;
+      no_others = λ image there.
+          let of = from_united Between own region.tablets all image there in
+          of.is.1.no_others image of.there;
+    }
+
+    made_between : (rs : List Ends) → AllHoldBetween sure maybe rs (map (made_of region.tablets) rs)
+    made_between [] = tt
+    made_between (r ∷ rs) = ((all_own, between, united_cells Between own region all is (λ t one. one.2) r), made_between rs)
+
+pub relaid_between : (region : RegionValue) (bounds : Bounds) (sure maybe : List Image) → IsRegion region → HasBetween sure maybe region → HasBetween sure maybe (with_layout region bounds)
+relaid_between region bounds sure maybe is has =
+    made_between sure maybe region is (each_between sure maybe region.marks (ranges region.layout) region.tablets is.tablets has) (ranges bounds)

@@ -1,20 +1,17 @@
 -- Regions that start from copies, and what they take from there on.
 use Rattle.std.proofs.Common.{◌≡◌, ℕ, zero, suc, List, [], ◌∷◌, ◌++◌, map, Ok, Err, refl, sym, ap, subst, arith}
 use Rattle.pn_join.proofs.MarksFacts.{position_of-raised_marks}
-use Rattle.pn_region.specs.Ahead.{NoneAhead}
-use Rattle.pn_region.specs.Events.{RegionEvent, round, half_round, loss, adoption, relayout, advance, AllLeadTo, AreHonestEvents}
+use Rattle.pn_region.specs.Regions.{NoneAhead}
+use Rattle.pn_region.specs.Events.{RegionEvent, round, half_round, loss, adoption, relayout, advance, AllLeadTo, AreHonestEvents, StartsFrom, AreAccepted, AreHonestCopies, start_events, all_left, all_taken}
 use Rattle.pn_region.specs.Laws.{AreIn}
-use Rattle.pn_region.specs.Starting.{StartsFrom, AreAccepted, AreHonestCopies, start_events}
-use Rattle.pn_region.specs.Taken.{all_left, all_taken}
 use Rattle.pn_region.proofs.Advanced.{advances}
-use Rattle.pn_region.proofs.Ahead.{marked_images, marked_alike, new_none, round_none}
+use Rattle.pn_region.proofs.EventImages.{marked_images, marked_alike, new_none, round_none, taken_together}
 use Rattle.pn_region.proofs.Common.{AllByRecursion, Positions, Ends, Reaches, table_of, BrokerRecord, up_to, TabletCopyValue, Bounds, IsLayout, step, after_step, tablet_after, TabletStateValue, empty_tablet, Adopt, ranges, AreTabletsOf, Serving, AreFaithful, HasImages, tablets_after_op, RegionValue, IsRegion, new_region, all_cells, AllServe}
-use Rattle.pn_region.proofs.EventImages.{taken_together}
 use Rattle.pn_region.proofs.EventSteps.{adopts, takes, event_is, events_are}
 use Rattle.pn_region.proofs.Faith.{new_faithful}
 use Rattle.pn_region.proofs.FaithfulEvents.{events_faithful}
-use Rattle.pn_region.proofs.NewRegion.{new_is}
-use Rattle.pn_region.proofs.ServingTablets.{new_serves, taken_serves}
+use Rattle.pn_region.proofs.RoundSteps.{new_is}
+use Rattle.pn_region.proofs.RoundEnds.{new_serves, taken_serves}
 use Rattle.pn_tablet.proofs.TabletLaws.{adopted}
 
 -- some events lead on from where others lead

@@ -1,16 +1,25 @@
--- The images that the tablets of a region have.
-use Rattle.std.proofs.Common.{◌≡◌, ℕ, zero, suc, true, slice_get, Some, List, [], ◌∷◌, ◌++◌, map, refl, sym, ap, ◌∙◌, subst, ◌⊎◌, inl, inr, Contains}
-use Rattle.std.proofs.lemmas.List.Elements.{Contains-append_left, Contains-append_right, Contains-append_cases}
-use Rattle.pn_record.specs.CellMap.{adds}
+-- The images that the tablets of a region have, one by one and together, and the cells of those.
+use Rattle.std.proofs.Common.{◌≡◌, ℕ, zero, suc, true, slice_get, Some, List, [], ◌∷◌, ◌++◌, map, refl, sym, ap, ◌∙◌, subst, ◌⊎◌, inl, inr, Contains, Bool, false, cond, append-nil, IsTrue}
+use Rattle.std.proofs.lemmas.List.Elements.{Contains-append_left, Contains-append_right, Contains-append_cases, filter-append}
+use Rattle.std.proofs.lemmas.List.Folds.{flat_map-map}
+use Rattle.std.specs.FinMap.{keys}
+use Rattle.std.proofs.lemmas.Grind.{flat_map-append}
+use Rattle.pn_record.specs.Cells.{adds, spell_cell}
 use Rattle.pn_record.proofs.CellLists.{cells-same}
-use Rattle.pn_record.proofs.CellMaps.{table_of-nil, same_cells_table}
-use Rattle.pn_apply.proofs.ReduceLaws.{range_joins}
+use Rattle.pn_record.proofs.CellMaps.{table_of-nil, same_cells_table, rising-table_of}
+use Rattle.pn_record.specs.Limits.{ContentValue}
+use Rattle.pn_record.proofs.Sorted.{first_true, second_true}
+use Rattle.pn_tablet.specs.Steps.{IsSpelled}
+use Rattle.pn_apply.proofs.ReduceLaws.{range_joins, cells_cut, same_in}
 use Rattle.pn_region.specs.Laws.{IsBetween, HoldsBetween, AllHoldBetween}
 use Rattle.pn_region.specs.Rounds.{after_joins}
-use Rattle.pn_region.proofs.Common.{AllByRecursion, Positions, DeliveryValue, Image, spell, Entries, table_of, Bounds, Ends, in_range, tablet_after, TabletStateValue, empty_tablet, all_stepped, AreOldOrStepped, all_images, images_in, join_in, ranges, HasImages, AreIn, HasBetween, RegionValue, IsTabletOf, AreTabletsOf, IsRegion, new_region, IsHalfTaken}
-use Rattle.pn_region.proofs.HalfRounds.{half_so, left_as}
-use Rattle.pn_region.proofs.InRange.{from_images_in, to_images_in}
+use Rattle.pn_region.proofs.Common.{AllByRecursion, Positions, DeliveryValue, Image, spell, Entries, table_of, Bounds, Ends, in_range, tablet_after, TabletStateValue, empty_tablet, all_stepped, AreOldOrStepped, all_images, images_in, join_in, ranges, HasImages, AreIn, HasBetween, RegionValue, IsTabletOf, AreTabletsOf, IsRegion, new_region, IsHalfTaken, flat_map, SameImages, IsLayout, all_cells, is_sorted, bytes_cmp, Stamp, lie_in}
+use Rattle.pn_region.proofs.RoundEnds.{half_so, left_as}
+use Rattle.pn_region.proofs.KeptRecords.{from_images_in, to_images_in}
 use Rattle.pn_region.proofs.RoundSteps.{is_taken}
+use Rattle.pn_region.proofs.Pieces.{Outside, Apart, ranges_apart, cells_of, not_in, spelled_inside}
+
+-- The images that the tablets of a region have.
 
 -- the cells of each tablet
 abbrev pub cells_each : List TabletStateValue → List Entries
@@ -154,3 +163,99 @@ round_may_take old new deliveries sure maybe is has left =
     (half_so old new deliveries (AllHoldBetween sure (maybe ++ all_images deliveries) (ranges old.layout))
     (none_perhaps sure maybe (all_images deliveries) (ranges old.layout) old.tablets has)
     (λ marks half. all_perhaps marks old.marks (all_images deliveries) sure maybe (ranges old.layout) old.tablets new.tablets is.tablets has half) left)
+
+-- All tablets together have the cells of all images.
+
+pub together : (region : RegionValue) (images : List Image) → IsLayout region.layout → HasImages region images → all_cells region ≡ table_of images
+together region images lawful has =
+    sym (flat_map-map (λ (cells : Entries). cells) (λ (tablet : TabletStateValue). tablet.cells) region.tablets)
+    ∙ ap (flat_map (λ (cells : Entries). cells)) has
+    ∙ flat_map-map (λ (cells : Entries). cells) (λ (range : Ends). table_of (images_in range images)) (ranges region.layout)
+    ∙ cells_cut region.layout images lawful
+
+sure_or : (sure maybe : List Image) (image : Image) → AreIn maybe sure → Contains sure image ⊎ Contains maybe image → Contains sure image
+sure_or sure maybe image are (inl there) = there
+sure_or sure maybe image are (inr there) = are image there
+
+-- images that have all of the sure ones, and none but those, are these
+same_sure : (sure maybe images : List Image) → AreIn maybe sure → IsBetween sure maybe images → SameImages images sure
+same_sure sure maybe images are between image =
+    ((λ there. sure_or sure maybe image are (Contains-append_cases sure maybe image (between.no_others image there))), between.all image)
+
+all_sure : (sure maybe : List Image) (rs : List Ends) (ts : List TabletStateValue) → AreIn maybe sure → AllHoldBetween sure maybe rs ts → cells_each ts ≡ pieces_of sure rs
+all_sure sure maybe [] [] are has = refl
+all_sure sure maybe [] (t ∷ ts) are has = absurd has
+all_sure sure maybe (r ∷ rs) [] are has = absurd has
+all_sure sure maybe (r ∷ rs) (t ∷ ts) are has =
+    λ i. (has.0.2 ∙ same_in r has.0.0 sure (same_sure sure maybe has.0.0 are has.0.1)) i ∷ all_sure sure maybe rs ts are has.1 i
+
+-- where all that may be there is sure to be, each tablet has the cells of the sure images
+pub surely_has : (region : RegionValue) (sure maybe : List Image) → AreIn maybe sure → HasBetween sure maybe region → HasImages region sure
+surely_has region sure maybe are has = all_sure sure maybe (ranges region.layout) region.tablets are has
+
+pub surely_together : (region : RegionValue) (sure maybe : List Image) → IsLayout region.layout → HasBetween sure maybe region → AreIn maybe sure → all_cells region ≡ table_of sure
+surely_together region sure maybe lawful has are = together region sure lawful (surely_has region sure maybe are has)
+
+-- The cells of all tablets are those of the images that spell them.
+
+-- images of a key outside a range are not in it
+no_images : (range : Ends) (key : List ℕ) (version : Stamp) (contents : List ContentValue) → in_range range key ≡ false
+    → images_in range (map (λ shown. record { key = key; version = version; content = shown }) contents) ≡ []
+no_images range key version [] outside = refl
+no_images range key version (shown ∷ contents) outside =
+    let image : Image = record { key = key; version = version; content = shown } in
+    let rest = map (λ (shown : ContentValue). record { key = key; version = version; content = shown }) contents in
+    ap (λ (b : Bool). cond b (image ∷ images_in range rest) (images_in range rest)) outside ∙ no_images range key version contents outside
+
+-- nor is what spells cells that lie in another range
+spelled_outside : (range other : Ends) (es : Entries) → ((key : List ℕ) → in_range other key ≡ true → in_range range key ≡ false) → lie_in other es ≡ true → images_in range (spell es) ≡ []
+spelled_outside range other [] apart inside = refl
+spelled_outside range other (e ∷ es) apart inside =
+    filter-append (λ (image : Image). in_range range image.key) (spell_cell e) (spell es)
+    ∙ (λ i. no_images range e.0 e.1.0 (keys e.1.1) (apart e.0 (first_true (in_range other e.0) (lie_in other es) inside)) i
+    ++ spelled_outside range other es apart (second_true (in_range other e.0) (lie_in other es) inside) i)
+
+spell-append : (es others : Entries) → spell (es ++ others) ≡ spell es ++ spell others
+spell-append es others = flat_map-append spell_cell es others
+
+-- what spells the cells of all tablets has in each range what spells its own
+none_of_others : (marks : Positions) (range : Ends) (rs : List Ends) (ts : List TabletStateValue) → Outside range rs → AreTabletsOf marks rs ts → images_in range (spell (cells_of ts)) ≡ []
+none_of_others marks range [] [] outside are = refl
+none_of_others marks range [] (t ∷ ts) outside are = absurd are
+none_of_others marks range (r ∷ rs) [] outside are = absurd are
+none_of_others marks range (r ∷ rs) (t ∷ ts) outside are =
+    ap (images_in range) (spell-append t.cells (cells_of ts))
+    ∙ filter-append (λ (image : Image). in_range range image.key) (spell t.cells) (spell (cells_of ts))
+    ∙ (λ i. spelled_outside range r t.cells outside.0 are.0.inside i ++ none_of_others marks range rs ts outside.1 are.1 i)
+
+-- images in a range that is apart from the others make no difference to them
+after_first : (range : Ends) (rs : List Ends) (es : Entries) (images : List Image) → Outside range rs → lie_in range es ≡ true → pieces_of (spell es ++ images) rs ≡ pieces_of images rs
+after_first range [] es images outside inside = refl
+after_first range (r ∷ rs) es images outside inside =
+    let here : images_in r (spell es ++ images) ≡ images_in r images =
+    filter-append (λ (image : Image). in_range r image.key) (spell es) images
+    ∙ ap (λ (own : List Image). own ++ images_in r images) (spelled_outside r range es (λ key lies. not_in range r key (outside.0 key) lies) inside) in
+    λ i. table_of (here i) ∷ after_first range rs es images outside.1 inside i
+
+own_pieces : (marks : Positions) (rs : List Ends) (ts : List TabletStateValue) → Apart rs → AreTabletsOf marks rs ts → cells_each ts ≡ pieces_of (spell (cells_of ts)) rs
+own_pieces marks [] [] apart are = refl
+own_pieces marks [] (t ∷ ts) apart are = absurd are
+own_pieces marks (r ∷ rs) [] apart are = absurd are
+own_pieces marks (r ∷ rs) (t ∷ ts) apart are =
+    let all : spell (cells_of (t ∷ ts)) ≡ spell t.cells ++ spell (cells_of ts) = spell-append t.cells (cells_of ts) in
+    let here : images_in r (spell (cells_of (t ∷ ts))) ≡ spell t.cells =
+    ap (images_in r) all
+    ∙ filter-append (λ (image : Image). in_range r image.key) (spell t.cells) (spell (cells_of ts))
+    ∙ (λ i. spelled_inside r t.cells are.0.inside i ++ none_of_others marks r rs ts apart.0 are.1 i)
+    ∙ append-nil (spell t.cells) in
+    λ i. (are.0.spelled ∙ ap table_of (sym here)) i
+    ∷ (own_pieces marks rs ts apart.1 are.1 ∙ sym (ap (λ (images : List Image). pieces_of images rs) all ∙ after_first r rs t.cells (spell (cells_of ts)) apart.0 are.0.inside)) i
+
+own_images : (region : RegionValue) → IsRegion region → HasImages region (spell (all_cells region))
+own_images region is = own_pieces region.marks (ranges region.layout) region.tablets (ranges_apart region.layout is.lawful) is.tablets
+
+pub all_spelled : (region : RegionValue) → IsRegion region → IsSpelled (all_cells region)
+all_spelled region is = together region (spell (all_cells region)) is.lawful (own_images region is)
+
+pub all_rising : (region : RegionValue) → IsRegion region → IsTrue (is_sorted bytes_cmp (all_cells region))
+all_rising region is = ap (is_sorted bytes_cmp) (all_spelled region is) ∙ rising-table_of (spell (all_cells region))

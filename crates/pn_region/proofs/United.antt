@@ -2,13 +2,11 @@
 use Rattle.std.proofs.Common.{◌≡◌, ℕ, zero, suc, true, false, cond, List, [], ◌∷◌, ◌++◌, slice_get, Some, refl, sym, ap, ◌∙◌, subst, arith, append_assoc, append-nil, Contains}
 use Rattle.std.proofs.lemmas.List.Elements.{Contains-append_left, Contains-append_right, filter-append}
 use Rattle.pn_apply.proofs.Tables.{entries_that, table_that}
-use Rattle.pn_region.specs.Relayouts.{made_of}
+use Rattle.pn_region.specs.Recovery.{made_of}
 use Rattle.pn_region.proofs.Common.{AllByRecursion, Positions, Image, table_of, Ends, in_range, TabletStateValue, images_in, ranges, RegionValue, AreTabletsOf, IsRegion}
-use Rattle.pn_region.proofs.Apart.{Outside, Apart, ranges_apart}
-use Rattle.pn_region.proofs.InRange.{from_images_in, to_images_in}
-use Rattle.pn_region.proofs.Pieces.{not_in}
-use Rattle.pn_region.proofs.TakenImages.{by_part, cells_each, pieces_of}
-use Rattle.pn_region.proofs.Together.{together}
+use Rattle.pn_region.proofs.Pieces.{Outside, Apart, ranges_apart, not_in}
+use Rattle.pn_region.proofs.KeptRecords.{from_images_in, to_images_in}
+use Rattle.pn_region.proofs.TakenImages.{by_part, cells_each, pieces_of, together}
 
 -- of the images in a range none is in one that is apart from it
 none_both : (r q : Ends) (images : List Image) → ((key : List ℕ) → in_range q key ≡ true → in_range r key ≡ false) → images_in r (images_in q images) ≡ []

@@ -1,24 +1,20 @@
 -- A tablet that was lost, took what came and adopted a copy, beside one that was never lost.
 use Rattle.std.proofs.Common.{◌≡◌, ℕ, Bool, true, false, if◌then◌else◌, List, [], ◌∷◌, ◌++◌, fold, Option, None, Ok, Err, refl, sym, ap, ◌∙◌, subst}
-use Rattle.pn_record.specs.Cells.{cells}
-use Rattle.pn_record.specs.CellMap.{adds}
+use Rattle.pn_record.specs.Cells.{cells, adds}
 use Rattle.pn_record.proofs.CellLists.{both, both-assoc, both-comm, cells-append, all_absorbed}
 use Rattle.pn_record.proofs.CellMaps.{Holds-table_of, cells-spelled, same_cells_table}
-use Rattle.pn_tablet.specs.Laws.{AreJoins}
-use Rattle.pn_tablet.specs.Steps.{with_join}
+use Rattle.pn_tablet.specs.Steps.{AreJoins, with_join}
 use Rattle.pn_tablet.specs.Steps as steps
 use Rattle.pn_tablet.specs.declared.state.Status.{Status}
-use Rattle.pn_tablet.proofs.Recovery.{nothing_short}
-use Rattle.pn_tablet.proofs.Stepping.{one_range}
-use Rattle.pn_tablet.proofs.TabletLaws.{adopted}
+use Rattle.pn_tablet.proofs.TabletLaws.{nothing_short, adopted}
+use Rattle.pn_tablet.proofs.JoinLaws.{one_range}
 use Rattle.pn_apply.proofs.ReduceLaws.{same_in}
-use Rattle.pn_region.specs.Held.{HoldsStill}
-use Rattle.pn_region.specs.Honest.{IsHonestCopy}
+use Rattle.pn_region.specs.Reads.{HoldsStill}
+use Rattle.pn_region.specs.Events.{IsHonestCopy}
 use Rattle.pn_region.proofs.Common.{find, Positions, Reaches, raised_marks, Image, bytes_cmp, CellValue, spell, Entries, table_of, BrokerRecord, up_to, TabletCopyValue, need_shortfall, Ends, recovering_tablet, step, after_step, tablet_after, TabletStateValue, lie_in, same_range, WrongRange, TabletOp, Join, Lose, Adopt, Serving, Recovering, images_in, IsFaithful}
-use Rattle.pn_region.proofs.FaithfulCopies.{was_so, serving_has_all}
-use Rattle.pn_region.proofs.InRange.{more_in}
-use Rattle.pn_region.proofs.StillHeld.{joined_held, found_added}
-use Rattle.pn_region.proofs.UpTo.{up_to_more}
+use Rattle.pn_region.proofs.FaithfulEvents.{was_so, serving_has_all}
+use Rattle.pn_region.proofs.KeptRecords.{more_in, joined_held, found_added}
+use Rattle.pn_region.proofs.MarkLaws.{up_to_more}
 
 spelled_added : (own : Entries) (images : List Image) (key : List ℕ) → cells (spell (adds own images)) key ≡ both (cells (spell own) key) (cells images key)
 unfolding adds

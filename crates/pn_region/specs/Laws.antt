@@ -1,16 +1,19 @@
--- What the laws of regions speak of.
-use Rattle.std.specs.Prelude.{◌≡◌, ◌⊎◌, ℕ, ◌+◌, ◌≤◌, ◌<◌, length, List, [], ◌∷◌, ◌++◌, map, Contains}
+-- What the laws of regions speak of, and tablets that are faithful to what brokers published.
+use Rattle.std.specs.Prelude.{◌≡◌, ◌⊎◌, ℕ, ◌+◌, ◌≤◌, ◌<◌, length, List, [], ◌∷◌, ◌++◌, map, Contains, IsTrue}
 use Rattle.std.specs.Ordering.{eq_by_cmp}
 use Rattle.std.specs.Set.{distinct_count}
+use Rattle.std.specs.List.{AllByRecursion}
 use Rattle.pn_join.specs.Marks.{Positions, name_cmp, position_of}
-use Rattle.pn_record.specs.declared.image.Image.{Image}
-use Rattle.pn_record.specs.CellMap.{Entries, table_of}
-use Rattle.pn_stream.specs.Positions.{DeliveryValue}
-use Rattle.pn_tablet.specs.Ranges.{Ends}
-use Rattle.pn_tablet.specs.Tablets.{TabletStateValue}
+use Rattle.pn_record.specs.declared.records.Image.{Image}
+use Rattle.pn_record.specs.Cells.{Entries, table_of}
+use Rattle.pn_tablet.specs.Layouts.{Ends, in_range}
+use Rattle.pn_tablet.specs.Tablets.{TabletStateValue, needed}
+use Rattle.pn_stream.specs.Brokers.{DeliveryValue, BrokerRecord, up_to}
 use Rattle.pn_apply.specs.Reducing.{images_in, ranges}
-use Rattle.pn_region.specs.Marking.{with_images}
+use Rattle.pn_region.specs.Rounds.{with_images}
 use Rattle.pn_region.specs.Regions.{RegionValue}
+
+-- What the laws of regions speak of.
 
 -- each tablet has the cells of the images that lie in its range
 abbrev pub HasImages : RegionValue → List Image → Type 0
@@ -78,3 +81,17 @@ pub record IsGap (marks : Positions) (deliveries : List DeliveryValue) (stream :
   pub below : (position : ℕ) → position < wanted → WasTaken marks before stream position
   pub missing : WasTaken marks before stream wanted → ⊥
   pub past : wanted < got
+
+-- Tablets that are faithful to what brokers published.
+
+-- its cells are those of images in its range, published up to its reach; of those up to its cover it lacks only what it needs
+pub record IsFaithful (broker : BrokerRecord) (tablet : TabletStateValue) : Type 0 where
+  pub images : List Image
+  pub cells : tablet.cells ≡ table_of (images_in tablet.range images)
+  pub published : AreIn images (up_to broker tablet.reach)
+  pub all : (image : Image) → Contains (up_to broker tablet.cover) image → IsTrue (in_range tablet.range image.key)
+      → Contains images image ⊎ Contains (up_to broker (needed tablet.status)) image
+
+-- each tablet is faithful
+abbrev pub AreFaithful : BrokerRecord → List TabletStateValue → Type 0
+AreFaithful broker tablets = AllByRecursion (IsFaithful broker) tablets

@@ -1,14 +1,15 @@
--- The state of a region.
+-- The state of a region, whose marks name streams in rising order, and past which no tablet took a stream.
 use Rattle.std.specs.Prelude.{◌≡◌, ◌≤◌, IsTrue, List, [], ◌∷◌, length, map}
-use Rattle.std.specs.List.{flat_map}
+use Rattle.std.specs.List.{flat_map, AllByRecursion}
 use Rattle.pn_join.specs.Marks.{Positions, Reaches, are_positions}
-use Rattle.pn_record.specs.CellMap.{Entries}
-use Rattle.pn_tablet.specs.Layouts.{Bounds, IsLayout}
-use Rattle.pn_tablet.specs.Laws.{IsSpelled}
-use Rattle.pn_tablet.specs.Ranges.{Ends}
+use Rattle.pn_record.specs.Cells.{Entries}
+use Rattle.pn_tablet.specs.Layouts.{Bounds, IsLayout, Ends}
+use Rattle.pn_tablet.specs.Steps.{IsSpelled, Rise}
 use Rattle.pn_tablet.specs.Tablets.{TabletStateValue, empty_tablet, lie_in}
 use Rattle.pn_apply.specs.Reducing.{ranges}
 use Rattle.pn_region.specs.declared.marking.TheConstants.{MAX_STREAMS}
+
+-- The state of a region.
 
 -- a layout, the tablets of its ranges, and the marks
 pub record RegionValue : Type 0 where
@@ -69,3 +70,17 @@ new_region bounds = record { layout = bounds; tablets = map empty_tablet (ranges
 -- the cells of all tablets together
 abbrev pub all_cells : RegionValue → Entries
 all_cells region = flat_map (λ tablet. tablet.cells) region.tablets
+
+-- Regions whose marks, covers and reaches name streams in rising order, as all do that events make.
+
+-- the names of the marks rise, and those of each cover and reach
+pub record AllRise (region : RegionValue) : Type 0 where
+  pub marks : Rise region.marks
+  pub covers : AllByRecursion (λ tablet. Rise tablet.cover) region.tablets
+  pub reaches : AllByRecursion (λ tablet. Rise tablet.reach) region.tablets
+
+-- Regions in which no tablet took a stream past the marks.
+
+-- no tablet's reach is past the marks
+abbrev pub NoneAhead : RegionValue → Type 0
+NoneAhead region = AllByRecursion (λ tablet. Reaches region.marks tablet.reach) region.tablets

@@ -5,8 +5,7 @@ ghost use Rattle.std.specs.List.{list_all};
 ghost use Rattle.pn_join.specs.Marks.{least_marks};
 ghost use Rattle.pn_join.specs.Prelude.{are_positions, position_of};
 ghost use Rattle.pn_tablet.specs.Prelude.{TabletStateValue, Refuses};
-ghost use Rattle.pn_region.specs.Advancing.{common_marks as the_common_marks, is_memory};
-ghost use Rattle.pn_region.specs.Relayouts.{least_cover};
+ghost use Rattle.pn_region.specs.Recovery.{common_marks as the_common_marks, is_no_advance as is_memory, least_cover};
 ghost use Rattle.pn_region.specs.declared.marking.TheConstants.{MAX_STREAMS};
 
 use crate::{AdvanceFault, MAX_STREAMS};

@@ -1,24 +1,24 @@
-//! The laws of rounds, as contracts. A call does nothing.
+//! The laws of regions, as contracts of functions that do nothing.
 
 ghost use Rattle.std.specs.Prelude.{◌≡◌, ℕ, ◌≤◌, ◌<◌, List, [], ◌++◌, length, Contains, Ok, Err, Some, IsSome, IsTrue, slice_get};
 ghost use Rattle.std.specs.FinMap.{find, is_sorted};
+ghost use Rattle.std.specs.List.{AllByRecursion};
 ghost use Rattle.pn_join.specs.Prelude.{Positions, Reaches, name_cmp, position_of};
-ghost use Rattle.pn_record.specs.declared.image.Image.{Image};
+ghost use Rattle.pn_record.specs.declared.records.Image.{Image};
 ghost use Rattle.pn_record.specs.Prelude.{bytes_cmp, table_of, NotOlder};
 ghost use Rattle.pn_stream.specs.Prelude.{BrokerRecord, AreHonest, up_to, DeliveryValue};
 ghost use Rattle.pn_tablet.specs.Prelude.{Bounds, IsLayout, tablet_of, TabletCopyValue, copy_of, IsSpelled, recovering_tablet, step, TabletStateValue};
 ghost use Rattle.pn_tablet.specs.declared.state.TabletOp.TheVariants.{Adopt};
 ghost use Rattle.pn_tablet.specs.declared.state.Status.TheVariants.{Serving};
 ghost use Rattle.pn_apply.specs.Prelude.{all_images, images_in};
-ghost use Rattle.pn_region.specs.Faith.{IsFaithful, AreFaithful};
-ghost use Rattle.pn_region.specs.Honest.{IsHonestCopy};
-ghost use Rattle.pn_region.specs.Laws.{AreIn, HasImages, HasBetween, HasNoGap, HasPosition, IsGap, stream_count};
+ghost use Rattle.pn_region.specs.Laws.{IsFaithful, AreFaithful, AreIn, HasImages, HasBetween, HasNoGap, HasPosition, IsGap, stream_count};
+ghost use Rattle.pn_region.specs.Events.{IsHonestCopy, RegionEvent, AllLeadTo, AreHonestEvents, StartsFrom, AreAccepted, AreHonestCopies, start_events};
+ghost use Rattle.pn_region.specs.Events.{all_left, all_taken};
 ghost use Rattle.pn_region.specs.declared.marking.TheConstants.{MAX_STREAMS};
-ghost use Rattle.pn_region.specs.Marking.{last_position, new_marks};
-ghost use Rattle.pn_region.specs.Regions.{RegionValue, IsRegion, new_region, all_cells};
-ghost use Rattle.pn_region.specs.Relayouts.{after_relayout};
-ghost use Rattle.pn_region.specs.Rounds.{after_joins, IsHalfTaken};
-ghost use Rattle.pn_region.specs.Serving.{AllServe};
+ghost use Rattle.pn_region.specs.Rounds.{last_position, new_marks, after_joins, IsHalfTaken};
+ghost use Rattle.pn_region.specs.Regions.{RegionValue, IsRegion, new_region, all_cells, NoneAhead};
+ghost use Rattle.pn_region.specs.Recovery.{after_relayout, after_advance};
+ghost use Rattle.pn_region.specs.Reads.{AllServe};
 ghost use Rattle.pn_region.specs.declared.fault.RoundFault.TheVariants.{Gap, TooManyStreams, Memory};
 
 /// A new region is a region, and has the cells of no image.
@@ -176,4 +176,73 @@ pub fn a_change_of_layout_keeps_all_records()
         → all_cells new ≡ all_cells old }
     ensures served { (old new : RegionValue) (bounds : Bounds) → after_relayout old bounds ≡ Ok new → AllServe old }
     ensures serve { (old new : RegionValue) (bounds : Bounds) → after_relayout old bounds ≡ Ok new → AllServe new }
+{}
+
+/// Marks that advance become the least of all covers, per stream. None falls, and all else stays.
+pub fn marks_advance_to_the_least_of_all_covers()
+    ensures covered { (old new : RegionValue) → after_advance old ≡ Ok new
+        → AllByRecursion (λ tablet. Reaches tablet.cover new.marks) old.tablets }
+    ensures least { (old new : RegionValue) (marks : Positions) → IsRegion old → after_advance old ≡ Ok new
+        → AllByRecursion (λ tablet. Reaches tablet.cover marks) old.tablets → Reaches new.marks marks }
+    ensures before { (old new : RegionValue) → IsRegion old → after_advance old ≡ Ok new → Reaches new.marks old.marks }
+    ensures rest { (old new : RegionValue) → after_advance old ≡ Ok new → (new.layout ≡ old.layout) × (new.tablets ≡ old.tablets) }
+{}
+
+/// After honest events, where all tablets serve and none took a stream past the marks, a region has exactly the images up
+/// to its marks. So it does not matter whether it took a stream from message 1, or copies and then the stream from its
+/// marks on: two such regions with the same marks have the same records.
+///
+/// A new region is such a one, and rounds keep it so.
+pub fn an_advanced_region_has_what_its_marks_tell()
+    ensures images { (broker : BrokerRecord) (bounds : Bounds) (events : List RegionEvent) (region : RegionValue)
+        → IsLayout bounds → AllLeadTo events (new_region bounds) region → AreHonestEvents broker events → AllServe region → NoneAhead region
+        → HasImages region (up_to broker region.marks) }
+    ensures alike { (broker : BrokerRecord) (bounds others : Bounds) (events more : List RegionEvent) (one other : RegionValue)
+        → IsLayout bounds → AllLeadTo events (new_region bounds) one → AreHonestEvents broker events → AllServe one → NoneAhead one
+        → IsLayout others → AllLeadTo more (new_region others) other → AreHonestEvents broker more → AllServe other → NoneAhead other
+        → Reaches one.marks other.marks → Reaches other.marks one.marks → all_cells one ≡ all_cells other }
+    ensures new { (bounds : Bounds) → NoneAhead (new_region bounds) }
+    ensures taken { (region : RegionValue) (deliveries : List DeliveryValue) (marks : Positions)
+        → IsRegion region → NoneAhead region → new_marks region.marks deliveries ≡ Ok marks → NoneAhead (after_joins region deliveries marks) }
+{}
+
+/// A region that starts from copies serves all its keys. Then and after all events, every cover reaches its marks.
+///
+/// It is faithful where the copies are honest, and stays so through honest events.
+pub fn a_region_that_starts_from_honest_copies_is_faithful()
+    ensures serves { (copies : List TabletCopyValue) (bounds : Bounds) (started : RegionValue) → StartsFrom copies bounds started → AllServe started }
+    ensures covers { (copies : List TabletCopyValue) (bounds : Bounds) (events : List RegionEvent) (started region : RegionValue)
+        → StartsFrom copies bounds started → AllLeadTo events started region
+        → IsRegion region × AllByRecursion (λ tablet. Reaches tablet.cover region.marks) region.tablets }
+    ensures faithful { (broker : BrokerRecord) (copies : List TabletCopyValue) (bounds : Bounds) (events : List RegionEvent) (started region : RegionValue)
+        → StartsFrom copies bounds started → AreHonestCopies broker copies → AllLeadTo events started region → AreHonestEvents broker events
+        → AreFaithful broker region.tablets }
+{}
+
+/// Where no copy was further than the marks, a region that started from honest copies, and then took honest deliveries from
+/// its marks on, has exactly the images up to its marks.
+///
+/// So it has the records of every region with these marks that took all streams from message 1.
+pub fn a_start_from_copies_is_as_good_as_whole_streams()
+    ensures ahead { (copies : List TabletCopyValue) (bounds : Bounds) (started : RegionValue)
+        → StartsFrom copies bounds started → AllByRecursion (λ copy. Reaches started.marks copy.marks) copies → NoneAhead started }
+    ensures images { (broker : BrokerRecord) (copies : List TabletCopyValue) (bounds : Bounds) (events : List RegionEvent) (started region : RegionValue)
+        → StartsFrom copies bounds started → AreHonestCopies broker copies → NoneAhead started
+        → AreAccepted events → AllLeadTo events started region → AreHonestEvents broker events
+        → HasImages region (up_to broker region.marks) }
+    ensures alike { (broker : BrokerRecord) (copies : List TabletCopyValue) (bounds others : Bounds)
+        (events more : List RegionEvent) (started region other : RegionValue)
+        → StartsFrom copies bounds started → AreHonestCopies broker copies → NoneAhead started
+        → AreAccepted events → AllLeadTo events started region → AreHonestEvents broker events
+        → IsLayout others → AreAccepted more → AllLeadTo more (new_region others) other → AreHonestEvents broker more
+        → Reaches region.marks other.marks → Reaches other.marks region.marks → all_cells region ≡ all_cells other }
+{}
+
+/// Whatever honest events follow, it has exactly what the copies and the events brought, if all tablets serve and rounds
+/// that ran out of memory were retried.
+pub fn a_region_that_starts_from_copies_has_what_it_took()
+    ensures { (broker : BrokerRecord) (copies : List TabletCopyValue) (bounds : Bounds) (events : List RegionEvent) (started region : RegionValue)
+        → StartsFrom copies bounds started → AreHonestCopies broker copies → AllLeadTo events started region → AreHonestEvents broker events → AllServe region
+        → AreIn (all_left (start_events copies ++ events)) (all_taken broker (start_events copies ++ events))
+        → all_cells region ≡ table_of (all_taken broker (start_events copies ++ events)) }
 {}

@@ -6,25 +6,20 @@
 
 #![tactic(auto)]
 
-pub mod advance_laws;
 mod advancing;
 mod fault;
-mod history;
 pub mod laws;
 mod marking;
-pub mod notice_laws;
 mod notices;
 pub mod read_laws;
 mod reads;
 pub mod recovery_laws;
 mod region;
-pub mod start_laws;
 
 pub use advancing::{Covered, common_marks};
 pub use fault::{AdvanceFault, RelayoutFault, RoundFault};
-pub use history::History;
 pub use marking::{MAX_STREAMS, check_marks, next_marks};
-pub use notices::{Entry, LAST_NUMBER, Log, Notice, Since};
+pub use notices::{Entry, History, LAST_NUMBER, Log, Notice, Since};
 /// Why a copy was not adopted. `WrongRange`: no tablet has its range.
 pub use pn_tablet::OpFault as AdoptFault;
 pub use region::{Region, Round, recall_soundness};

@@ -6,8 +6,8 @@ ghost use Rattle.std.specs.Int.{from_bool};
 ghost use Rattle.pn_join.specs.Prelude.{name_cmp, is_position, position_of, are_positions};
 ghost use Rattle.pn_tablet.specs.Prelude.{Refuses};
 ghost use Rattle.pn_region.specs.declared.marking.TheConstants.{MAX_STREAMS};
-ghost use Rattle.pn_region.specs.Marking.{with_images, last_of as the_last_of, last_of_stream as the_last_of_stream};
-ghost use Rattle.pn_region.specs.Marking.{with_deliveries, marks_after, new_marks, is_memory};
+ghost use Rattle.pn_region.specs.Rounds.{with_images, last_of as the_last_of, last_of_stream as the_last_of_stream, with_deliveries, marks_after, new_marks};
+ghost use Rattle.pn_region.specs.Rounds.{is_memory};
 
 use crate::RoundFault;
 use pn_apply::Batch;

@@ -1,19 +1,59 @@
-//! The log of a region: its notices, each with a number.
+//! The log of what changes a region, and its history.
 
-ghost use Rattle.std.specs.Prelude.{◌≡◌, ◌≤◌, ◌<◌, ◌+◌, ◌^◌, [], ◌∷◌, ◌++◌, length, drop, IfOk, IfSome, None, ◌⊎◌};
-ghost use Rattle.pn_region.specs.declared.notices.TheConstants.{LAST_NUMBER};
-ghost use Rattle.pn_region.specs.Log.{entries_of, last_of, notices_from};
-ghost use Rattle.pn_region.specs.Since.{IsSince};
-ghost use Rattle.pn_region.specs.Kept.{kept_with};
+ghost use Rattle.std.specs.Prelude.{◌≡◌, [], ◌∷◌, ◌++◌, ◌≤◌, ◌<◌, ◌+◌, ◌^◌, length, drop, IfOk, IfSome, None, ◌⊎◌};
 ghost use Rattle.std.specs.List.{flat_map};
+ghost use Rattle.pn_region.specs.declared.notices.TheConstants.{LAST_NUMBER};
+ghost use Rattle.pn_region.specs.Log.{entries_of, last_of, notices_from, IsSince, kept_with};
 ghost use Rattle.circular_buffer.specs.Buffer.{buffer};
 
-use crate::History;
 use circular_buffer::HeapCircularBuffer;
 use pn_join::{Dup, NoMemory};
 use pn_tablet::Change;
 use std::alloc::Global;
 use std::marker::Model;
+use std::snapshot::Snapshot;
+
+/// All items that were added, in order, as clauses see them. Nothing is stored.
+#[derive(Drop)]
+pub struct History<T> {
+    past: Past<T>,
+}
+
+// Nothing, or an item after those before it.
+#[derive(Drop)]
+enum Past<T> {
+    Start,
+    After(Snapshot<Past<T>>, Snapshot<T>),
+}
+
+impl<T> Model for History<T> {
+    ghost use Rattle.std.specs.Prelude.{List};
+    ghost use Rattle.std.specs.Coded.{coded_list};
+
+    ghost Value = { List T };
+
+    ghost coded = { coded_list T.code };
+
+    ghost use Rattle.pn_region.specs.Log.{items};
+
+    ghost view = { λ history. items history.past };
+}
+
+impl<T> History<T> {
+    /// An empty history.
+    pub fn new() -> History<T>
+        ensures { result ≡ [] }
+    {
+        History { past: Past::Start }
+    }
+
+    /// Adds the item at the end.
+    pub fn push(&mut self, item: &T)
+        ensures { self.new ≡ self.old ++ item.now ∷ [] }
+    {
+        self.past = Past::After(Snapshot::of(&self.past), Snapshot::of(item));
+    }
+}
 
 /// How many changes a log keeps.
 const MAX_NOTICES: usize = 1024;
@@ -60,7 +100,7 @@ pub struct Log {
 impl Model for Log {
     ghost use Rattle.std.specs.Prelude.{List};
     ghost use Rattle.pn_region.specs.declared.notices.Entry.{Entry};
-    ghost use Rattle.pn_region.specs.Kept.{IsLog};
+    ghost use Rattle.pn_region.specs.Log.{IsLog};
 
     ghost Value = { List Entry };
 

@@ -1,21 +1,24 @@
-//! The laws of reads of regions, as contracts. A call does nothing.
+//! The laws of reads and of notices, as contracts of functions that do nothing.
 
-ghost use Rattle.std.specs.Prelude.{◌≡◌, ◌≢◌, ℕ, ◌<◌, List, map, Option, Some, None, Ok, Err, IsTrue};
-ghost use Rattle.std.specs.FinMap.{find, is_sorted};
+ghost use Rattle.std.specs.Prelude.{◌≡◌, ◌≢◌, ℕ, ◌<◌, List, map, Option, Some, None, Ok, Err, IsTrue, ◌+◌, ◌≤◌, ◌∷◌, ◌++◌, length, drop, Contains};
 ghost use Rattle.std.specs.List.{AllByRecursion};
+ghost use Rattle.std.specs.FinMap.{find, is_sorted};
 ghost use Rattle.pn_join.specs.Prelude.{Positions};
 ghost use Rattle.pn_record.specs.Prelude.{Entries, bytes_cmp, Stamp};
 ghost use Rattle.pn_stream.specs.Prelude.{DeliveryValue};
 ghost use Rattle.pn_tablet.specs.Prelude.{Bounds};
 ghost use Rattle.pn_scan.specs.Prelude.{QueryValue, shown_rows, PageValue, first_page, unless_behind, left_by, rows_of};
 ghost use Rattle.pn_scan.specs.Shown.{is_after};
-ghost use Rattle.pn_scan.specs.Walks.{ArePages};
-ghost use Rattle.pn_scan.specs.declared.fault.ScanFault.TheVariants.{NoEntry};
-ghost use Rattle.pn_region.specs.PageWalks.{IsAnswered, IsAnsweredOf};
-ghost use Rattle.pn_region.specs.Reads.{read_in, get_in, page_in};
+ghost use Rattle.pn_scan.specs.Views.{ArePages};
+ghost use Rattle.pn_scan.specs.declared.view.ScanFault.TheVariants.{NoEntry};
+ghost use Rattle.pn_region.specs.Reads.{IsAnswered, IsAnsweredOf, read_in, get_in, page_in, AllServe, ArePagesOf};
 ghost use Rattle.pn_region.specs.Regions.{RegionValue, IsRegion, new_region, all_cells};
 ghost use Rattle.pn_region.specs.Rounds.{after_joins, IsHalfTaken};
-ghost use Rattle.pn_region.specs.Serving.{AllServe, ArePagesOf};
+ghost use Rattle.pn_tablet.specs.declared.change.Change.{Change};
+ghost use Rattle.pn_region.specs.declared.notices.Entry.{Entry};
+ghost use Rattle.pn_region.specs.declared.notices.Entry.TheVariants.{Break};
+ghost use Rattle.pn_region.specs.declared.notices.TheConstants.{MAX_NOTICES, LAST_NUMBER};
+ghost use Rattle.pn_region.specs.Log.{entries_of, changes_after, notices_from, last_of};
 
 /// No read of a region answers `NoEntry`.
 pub fn no_entry_is_refused()
@@ -82,4 +85,40 @@ pub fn keys_rise_from_page_to_page()
         → ArePages IsAnswered (Some query) pages → IsTrue (is_sorted bytes_cmp (rows_of pages)) }
     ensures after { (query : QueryValue) (pages : List PageValue) → 0 < query.limit
         → ArePages IsAnswered (Some query) pages → AllByRecursion (λ row. IsTrue (is_after query.after row.0)) (rows_of pages) }
+{}
+
+/// `since(n)` returns exactly the changes numbered after n, up to the last number. They are at most 1,024.
+pub fn since_returns_the_changes_after_a_number()
+    ensures entries { (entries : List Entry) (n : ℕ) (changes : List Change)
+        → changes_after entries n ≡ Some changes → drop n entries ≡ entries_of changes }
+    ensures last { (entries : List Entry) (n : ℕ) (changes : List Change)
+        → changes_after entries n ≡ Some changes → last_of entries ≡ n + length changes }
+    ensures few { (entries : List Entry) (n : ℕ) (changes : List Change)
+        → changes_after entries n ≡ Some changes → length changes ≤ MAX_NOTICES }
+{}
+
+/// `since` with the last number of an earlier answer goes on where that answer ended: both answers together are the
+/// changes after the first number, numbered without a gap.
+pub fn answers_leave_nothing_out_and_repeat_nothing()
+    ensures entries { (entries more : List Entry) (n : ℕ) (first second : List Change)
+        → changes_after entries n ≡ Some first → changes_after (entries ++ more) (last_of entries) ≡ Some second
+        → drop n (entries ++ more) ≡ entries_of (first ++ second) }
+    ensures numbers { (n : ℕ) (first second : List Change)
+        → notices_from n (first ++ second) ≡ notices_from n first ++ notices_from (n + length first) second }
+{}
+
+/// A number before a break gets no answer. If a known, recent number gets no answer, a break follows it; recent
+/// means that at most 1,024 numbers follow.
+pub fn a_break_is_missed()
+    ensures below { (before after : List Entry) (n : ℕ) (changes : List Change)
+        → changes_after (before ++ Break ∷ after) n ≡ Some changes → length before < n }
+    ensures broken { (entries : List Entry) (n : ℕ)
+        → changes_after entries n ≡ None → n ≤ length entries → length entries ≤ n + MAX_NOTICES → length entries ≤ LAST_NUMBER
+        → Contains (drop n entries) Break }
+{}
+
+/// Once there are more entries than numbers, no number gets an answer, and the last number stays.
+pub fn past_the_last_number_there_are_no_answers()
+    ensures { (entries : List Entry) (n : ℕ) → LAST_NUMBER < length entries
+        → (changes_after entries n ≡ None) × (last_of entries ≡ LAST_NUMBER) }
 {}

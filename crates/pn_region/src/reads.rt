@@ -1,18 +1,17 @@
 //! Reads of a region.
 
-ghost use Rattle.std.specs.Prelude.{◌≡◌, ◌<◌, ◌+◌, ◌-◌, ◌^◌, length, map, slice_get, option_map, Some, None, Err, IsOk, IsErrOf, if◌then◌else◌};
+ghost use Rattle.std.specs.Prelude.{◌≡◌, ◌-◌, ◌^◌, Err, IsOk, IsErrOf};
 ghost use Rattle.pn_json.specs.Prelude.{ShowsUnless};
-ghost use Rattle.pn_scan.specs.Pages.{refusal, first_refusal};
 ghost use Rattle.pn_scan.specs.Prelude.{AnswersAfter, cell_at};
-ghost use Rattle.pn_scan.specs.declared.fault.ScanFault.TheVariants.{Memory, NoEntry, Recovering};
-ghost use Rattle.pn_region.specs.Reads.{IsThere, BeginsToRead, look_in, look_for, read_in, get_in, page_in};
+ghost use Rattle.pn_scan.specs.declared.view.ScanFault.TheVariants.{Memory, NoEntry};
+ghost use Rattle.pn_region.specs.Reads.{IsThere, BeginsToRead, look_for, read_in, get_in, page_in};
 
 use crate::Region;
 use pn_record::{Cell, Key, Version};
 use pn_scan::{
     Budget, Page, PartResult, Query, ScanFault, View, cell_of, get, page, part_of, read_at_least,
 };
-use pn_tablet::{Layout, Status, TabletState};
+use pn_tablet::Layout;
 
 /// A view of the region's own tablets, which do not change while it lasts. It never answers `NoEntry`.
 impl View for &Region {
@@ -66,9 +65,6 @@ impl Region {
         ensures memory { IsErrOf result ScanFault.Memory → IsOk (get_in self.now.state keys.now) }
         ensures entered { result ≡ Err NoEntry → ⊥ }
     {
-        if let Some(tablet) = first_recovering(self.layout(), self.states(), keys) {
-            return Err(ScanFault::Recovering(tablet));
-        }
         let mut view = self;
         get(self.alloc, &mut view, keys)
     }
@@ -86,29 +82,5 @@ impl Region {
     {
         let mut view = self;
         page(self.alloc, &mut view, query)
-    }
-}
-
-// The tablet of the first key whose tablet recovers.
-fn first_recovering(layout: &Layout, tablets: &[TabletState], keys: &[Key]) -> Option<usize>
-    requires { length tablets.now ≡ length layout.now + 1 }
-    ensures { first_refusal (map (look_in layout.now tablets.now) keys.now) ≡ option_map (λ tablet. Recovering tablet) result }
-{
-    for key in keys {
-        let tablet = layout.tablet_of(key);
-        if recovers(tablets, tablet) {
-            return Some(tablet);
-        }
-    }
-    None
-}
-
-fn recovers(tablets: &[TabletState], tablet: usize) -> bool
-    requires { tablet < length tablets.now }
-    ensures { refusal (tablet, slice_get tablets.now tablet) ≡ (if result then Some (Recovering tablet) else None) }
-{
-    match tablets[tablet].status() {
-        Status::Recovering { .. } => true,
-        Status::Serving => false,
     }
 }

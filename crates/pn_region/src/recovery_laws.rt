@@ -3,24 +3,20 @@
 ghost use Rattle.std.specs.Prelude.{◌≡◌, ℕ, List, [], ◌++◌, fold, slice_get, Ok, Option, Some};
 ghost use Rattle.std.specs.FinMap.{find};
 ghost use Rattle.pn_join.specs.Prelude.{Positions, Reaches};
-ghost use Rattle.pn_record.specs.declared.image.Image.{Image};
+ghost use Rattle.pn_record.specs.declared.records.Image.{Image};
 ghost use Rattle.pn_record.specs.Prelude.{SameImages, table_of, NotOlder, bytes_cmp, CellValue};
 ghost use Rattle.pn_stream.specs.Prelude.{BrokerRecord, DeliveryValue};
-ghost use Rattle.pn_tablet.specs.Prelude.{TabletCopyValue, copy_of, AreJoins, Bounds, IsLayout};
-ghost use Rattle.pn_tablet.specs.Prelude.{tablet_of, recovering_tablet, step, tablet_after, TabletStateValue};
+ghost use Rattle.pn_tablet.specs.Prelude.{TabletCopyValue, copy_of, AreJoins, Bounds, IsLayout, tablet_of, recovering_tablet, step, tablet_after};
+ghost use Rattle.pn_tablet.specs.Prelude.{TabletStateValue};
 ghost use Rattle.pn_tablet.specs.declared.state.TabletOp.{TabletOp};
 ghost use Rattle.pn_tablet.specs.declared.state.TabletOp.TheVariants.{Adopt};
 ghost use Rattle.pn_tablet.specs.declared.state.Status.TheVariants.{Serving};
-ghost use Rattle.pn_region.specs.Events.{RegionEvent, LeadsTo, AllLeadTo, IsHonestEvent, AreHonestEvents};
-ghost use Rattle.pn_region.specs.Faith.{IsFaithful, AreFaithful};
-ghost use Rattle.pn_region.specs.Held.{HoldsStill};
-ghost use Rattle.pn_region.specs.Honest.{IsHonestCopy};
-ghost use Rattle.pn_region.specs.Laws.{AreIn};
-ghost use Rattle.pn_region.specs.Regions.{RegionValue, IsRegion, new_region, all_cells};
-ghost use Rattle.pn_region.specs.Rising.{AllRise};
+ghost use Rattle.pn_region.specs.Events.{RegionEvent, LeadsTo, AllLeadTo, IsHonestEvent, AreHonestEvents, IsHonestCopy, all_taken, all_left, CoversTell};
+ghost use Rattle.pn_region.specs.Events.{HoldTaken, AreRounds, LoseNothing, KeepsLayout, KeepLayout};
+ghost use Rattle.pn_region.specs.Laws.{IsFaithful, AreFaithful, AreIn};
+ghost use Rattle.pn_region.specs.Reads.{HoldsStill, AllServe, ServesAt};
+ghost use Rattle.pn_region.specs.Regions.{RegionValue, IsRegion, new_region, all_cells, AllRise};
 ghost use Rattle.pn_region.specs.Rounds.{round, IsHalfTaken};
-ghost use Rattle.pn_region.specs.Serving.{AllServe, ServesAt};
-ghost use Rattle.pn_region.specs.Taken.{all_taken, all_left, CoversTell, HoldTaken, AreRounds, LoseNothing, KeepsLayout, KeepLayout};
 
 /// Every event leaves a region: one tablet for each range, whose cover reaches the marks, and whose reach the cover.
 pub fn events_leave_a_region()

@@ -3,28 +3,25 @@
 ghost use Rattle.std.specs.Prelude.{◌≡◌, ◌+◌, ◌≤◌, ◌<◌, ◌^◌, length, slice_get, map, Some, Ok, IsTrue, IfOk, IfErr, OnOk, OnErr};
 ghost use Rattle.std.specs.List.{flat_map};
 ghost use Rattle.pn_join.specs.Prelude.{are_positions};
-ghost use Rattle.pn_tablet.specs.Prelude.{tablet_ends, Refuses, empty_tablet, changes};
+ghost use Rattle.pn_tablet.specs.Prelude.{Refuses, empty_tablet, changes};
 ghost use Rattle.pn_apply.specs.Prelude.{AreJoinsIn, HavePositions, all_stepped, all_changes, AreOldOrStepped, IsSomeOld, joined_cells, ranges};
 ghost use Rattle.pn_apply.specs.declared.reducing.TheConstants.{MAX_WORKERS};
 ghost use Rattle.pn_scan.specs.Prelude.{IsStateOf};
 ghost use Rattle.pn_region.specs.declared.marking.TheConstants.{MAX_STREAMS};
-ghost use Rattle.pn_region.specs.Logged.{new_logged};
-ghost use Rattle.pn_region.specs.Marking.{is_memory};
+ghost use Rattle.pn_region.specs.Log.{new_logged, IsSince};
+ghost use Rattle.pn_region.specs.Rounds.{is_memory, round, Leaves};
 ghost use Rattle.pn_region.specs.Regions.{IsRegion, all_cells};
-ghost use Rattle.pn_region.specs.Rounds.{round, Leaves};
-ghost use Rattle.pn_region.specs.Since.{IsSince};
 
 mod advance;
-mod parts;
 mod recovery;
 mod relayout;
 mod rounds;
 
 use crate::{Log, RoundFault, Since, next_marks};
-pub use parts::recall_soundness;
 use pn_apply::{Gate, Share, apply_all, reduce};
 use pn_join::{Dup, Marks, NoMemory};
-use pn_tablet::{Change, Layout, Range, TabletOp, TabletState};
+use pn_tablet::{Change, Layout, TabletOp, TabletState};
+pub use rounds::recall_soundness;
 use std::alloc::Global;
 use std::marker::Model;
 use std::thread::Threads;
@@ -47,12 +44,11 @@ pub struct Round {
 }
 
 impl Model for Region {
-    ghost use Rattle.pn_region.specs.Logged.{LoggedRegion};
+    ghost use Rattle.pn_region.specs.Log.{LoggedRegion};
+    ghost use Rattle.pn_region.specs.Proofs.{logged_code};
     ghost use Rattle.pn_region.specs.Regions.{IsLawfulRegion};
 
     ghost Value = { LoggedRegion };
-
-    ghost use Rattle.pn_region.specs.Proofs.Coding.{logged_code};
 
     ghost coded = { logged_code };
 
@@ -120,7 +116,7 @@ impl Region {
     }
 
     // Takes shares into the tablets and the marks, and returns the changes of each tablet. The log stays.
-    fn take<R: Threads + Sync, G: Gate + Sync>(
+    fn take_round<R: Threads + Sync, G: Gate + Sync>(
         &mut self,
         rt: &R,
         shares: &[Share],
@@ -158,17 +154,9 @@ fn empty_tablets(alloc: Global, layout: &Layout) -> Result<Vec<TabletState>, NoM
 {
     let mut tablets = Vec::with_capacity(alloc, layout.count())?;
     for tablet in 0..layout.count() {
-        tablets.push_reserved(TabletState::new(alloc, range_of(layout, tablet)?));
+        tablets.push_reserved(TabletState::new(alloc, layout.range_of(tablet)?));
     }
     Ok(tablets)
-}
-
-fn range_of(layout: &Layout, tablet: usize) -> Result<Range, NoMemory>
-    requires { tablet ≤ length layout.now }
-    ensures { IfOk result (λ range. range ≡ tablet_ends layout.now tablet) }
-{
-    let (from, to) = layout.range(tablet);
-    Range::from_ends(from, to)
 }
 
 // Each tablet takes its join. Returns the changes of each, of which there are fewer than 2^64: at most as many as

@@ -3,15 +3,12 @@ use Rattle.std.proofs.Common.{◌≡◌, ℕ, ◌+◌, ◌<◌, ◌≤◌, List,
 use Rattle.std.specs.List.{AllByRecursion}
 use Rattle.std.specs.FinMap.{find}
 use Rattle.std.proofs.lemmas.List.{map-append, take_more, take-append-le}
-use Rattle.pn_record.specs.Order.{bytes_cmp}
-use Rattle.pn_record.specs.Sets.{CellValue}
+use Rattle.pn_record.specs.Sets.{bytes_cmp, CellValue}
 use Rattle.pn_tablet.specs.Layouts.{Bounds, tablet_of}
-use Rattle.pn_tablet.specs.Refusals.{Refuses}
-use Rattle.pn_scan.specs.Candidates.{Look, cells_in}
-use Rattle.pn_scan.specs.Pages.{refusal, first_refusal, unless}
-use Rattle.pn_scan.specs.Views.{IsFoundIn, Looks, is_memory, cell_at}
-use Rattle.pn_scan.specs.Reads.{IsGet, cells_of_keys}
-use Rattle.pn_scan.specs.declared.fault.ScanFault.{ScanFault}
+use Rattle.pn_tablet.specs.Steps.{Refuses}
+use Rattle.pn_scan.specs.Pages.{Look, cells_in, refusal, first_refusal, unless}
+use Rattle.pn_scan.specs.Views.{IsFoundIn, Looks, is_memory, cell_at, IsGet, cells_of_keys}
+use Rattle.pn_scan.specs.declared.view.ScanFault.{ScanFault}
 use Rattle.pn_scan.proofs.Scans.{looks_more, found_more, refused_last, none_refused_front, is_right_too, ok_value}
 
 none_got : (keys : List (List ℕ)) → [] ≡ cells_of_keys keys []

@@ -5,13 +5,11 @@ use Rattle.std.specs.Result.{result_ok}
 use Rattle.pn_record.specs.Sets.{CellValue}
 use Rattle.pn_record.specs.declared.cell.Cell.{Cell}
 use Rattle.pn_tablet.specs.Layouts.{Bounds, tablet_of}
-use Rattle.pn_tablet.specs.Refusals.{IsRight, Refuses}
-use Rattle.pn_scan.specs.Candidates.{Look}
-use Rattle.pn_scan.specs.Pages.{unless}
-use Rattle.pn_scan.specs.Reads.{IsGet, cells_of_keys}
-use Rattle.pn_scan.specs.Views.{LooksOnce, Answers, is_memory, cell_at}
-use Rattle.pn_scan.specs.declared.fault.ScanFault.{ScanFault}
-use Rattle.pn_scan.specs.declared.fault.ScanFault.TheVariants.{Memory}
+use Rattle.pn_tablet.specs.Steps.{IsRight, Refuses}
+use Rattle.pn_scan.specs.Pages.{Look, unless}
+use Rattle.pn_scan.specs.Views.{IsGet, cells_of_keys, LooksOnce, Answers, is_memory, cell_at}
+use Rattle.pn_scan.specs.declared.view.ScanFault.{ScanFault}
+use Rattle.pn_scan.specs.declared.view.ScanFault.TheVariants.{Memory}
 use Rattle.pn_scan.proofs.Gets.{IsGetting, getting_none, getting_more, get_fails, get_ends}
 use Rattle.pn_scan.proofs.Scans.{none_refused_front}
 

@@ -6,16 +6,13 @@ use Rattle.std.specs.Prelude.{slice_range}
 use Rattle.std.proofs.lemmas.List.{take-append-drop, drop-drop}
 use Rattle.std.proofs.lemmas.List.Elements.{filter-append}
 use Rattle.pn_join.proofs.Rising.{Below, Rising}
-use Rattle.pn_record.specs.CellMap.{Entries}
+use Rattle.pn_record.specs.Cells.{Entries}
 use Rattle.pn_record.specs.Limits.{ContentValue}
-use Rattle.pn_record.specs.Order.{bytes_cmp}
-use Rattle.pn_record.specs.Sets.{CellValue}
-use Rattle.pn_tablet.specs.Ranges.{is_below, is_from, is_before}
-use Rattle.pn_scan.specs.Conditions.{shows}
-use Rattle.pn_scan.specs.Queries.{QueryValue}
-use Rattle.pn_scan.specs.Parts.{walk_answer}
-use Rattle.pn_scan.specs.Shown.{is_after, is_asked, is_shown, is_shown_from, rows_from, shown_rows}
-use Rattle.pn_scan.specs.Works.{contents_work, records_work, shows_from}
+use Rattle.pn_record.specs.Sets.{bytes_cmp, CellValue}
+use Rattle.pn_tablet.specs.Layouts.{is_below, is_from, is_before}
+use Rattle.pn_scan.specs.Queries.{shows, QueryValue}
+use Rattle.pn_scan.specs.Paging.{walk_answer}
+use Rattle.pn_scan.specs.Shown.{is_after, is_asked, is_shown, is_shown_from, rows_from, shown_rows, contents_work, records_work, shows_from}
 use Rattle.pn_scan.proofs.Walking.{NoneBelow, lesser_at, not_asked, hidden_first, shown_first, and_first, and_mid, none_past, from_there}
 
 module _ {A : Type 0} where

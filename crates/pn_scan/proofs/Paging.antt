@@ -7,25 +7,22 @@ use Rattle.std.proofs.Math.Seq.{take-append_seam}
 use Rattle.std.proofs.lemmas.Bool.{cases_lt}
 use Rattle.std.proofs.lemmas.List.{map-append, length-map}
 use Rattle.std.proofs.lemmas.List.FromFn.{length-range_with_len}
-use Rattle.pn_record.specs.CellMap.{Entries}
+use Rattle.pn_record.specs.Cells.{Entries}
 use Rattle.pn_tablet.specs.Layouts.{Bounds, IsLayout}
-use Rattle.pn_tablet.specs.Refusals.{Refuses}
+use Rattle.pn_tablet.specs.Steps.{Refuses}
 use Rattle.pn_scan.specs.Queries.{QueryValue}
 use Rattle.pn_scan.specs.Shown.{shown_rows}
-use Rattle.pn_scan.specs.Candidates.{Look, cells_in, is_candidate, candidates, rows_in, is_visited, candidates_of, visited}
-use Rattle.pn_scan.specs.Pages.{PageValue, refusal, first_refusal, first_page, unless}
-use Rattle.pn_scan.specs.Paging.{LookMade, AreMade, looks_in, Follows, Gaps, Moving, IsPreorder, LooksAfter, going_in, rows_to_come, steps_left, IsOnPage, EndsPage}
-use Rattle.pn_scan.specs.Parts.{PartValue, left_in, part_left}
-use Rattle.pn_scan.specs.Views.{Looks, LooksOnce, is_memory, rows_at}
-use Rattle.pn_scan.specs.Visits.{GoesOn, IsVisit, IsWhole, IsScan}
+use Rattle.pn_scan.specs.Pages.{Look, cells_in, is_candidate, candidates, rows_in, is_visited, candidates_of, visited, PageValue, refusal, first_refusal, first_page, unless}
+use Rattle.pn_scan.specs.Paging.{LookMade, AreMade, looks_in, Follows, Gaps, Moving, IsPreorder, LooksAfter, going_in, rows_to_come, steps_left, IsOnPage, EndsPage, PartValue, left_in, part_left}
+use Rattle.pn_scan.specs.Views.{Looks, LooksOnce, is_memory, rows_at, GoesOn, IsVisit, IsWhole, IsScan}
 use Rattle.pn_scan.specs.WalkValues.{PageWalkValue, PartWalkValue}
-use Rattle.pn_scan.specs.declared.fault.ScanFault.{ScanFault}
-use Rattle.pn_scan.specs.declared.fault.ScanFault.TheVariants.{Memory}
+use Rattle.pn_scan.specs.declared.view.ScanFault.{ScanFault}
+use Rattle.pn_scan.specs.declared.view.ScanFault.TheVariants.{Memory}
 use Rattle.pn_scan.specs.declared.walk.TabletRows.{TabletRows}
 use Rattle.pn_scan.specs.declared.walk.TabletRows.TheVariants.{Done as FoundAll, Rest}
-use Rattle.pn_scan.proofs.Numbers.{Numbered, all_visited}
+use Rattle.pn_scan.proofs.Continuing.{Numbered, all_visited}
 use Rattle.pn_scan.proofs.Scans.{found_more, rows_more, refused_last, or_none, goes_on_more, few_more, after_front, all_taken, more_left, is_right_too, ok_value, some_seen}
-use Rattle.pn_scan.proofs.Visiting.{range_of, numbered_from}
+use Rattle.pn_scan.proofs.CandidateRange.{range_of, numbered_from}
 
 -- where no look was refused, none of some of them was
 none_refused_kept : (p : Look → Bool) (looks : List Look) → first_refusal looks ≡ None → first_refusal (filter p looks) ≡ None
@@ -257,8 +254,8 @@ pub gaps_more : {V : Type 0} (moves : Moving V) (was between old new : V) (trace
 gaps_more moves was between old new [] more order gaps moved follows = gaps_on moves old new more was order (order.goes_on was between old gaps moved) follows
 gaps_more moves was between old new (one ∷ trace) more order gaps moved follows = (gaps.0, gaps_more moves one.new between old new trace more order gaps.1 moved follows)
 
-begun_too : {V : Type 0} (answer : Result PageValue ScanFault) (trace : List (LookMade V)) → OnErr answer (0 < length trace) → OnErr answer (0 < length (looks_in trace))
-begun_too (Ok page) trace begun = tt
+pub begun_too : {A V : Type 0} (answer : Result A ScanFault) (trace : List (LookMade V)) → OnErr answer (0 < length trace) → OnErr answer (0 < length (looks_in trace))
+begun_too (Ok value) trace begun = tt
 begun_too (Err why) trace begun = omega (arith, begun, length-map trace (λ one. one.look))
 
 -- a page that was found by looks between which the view moved
@@ -279,5 +276,5 @@ scanned moves looks bounds query was now answer trace ends gaps =
 
 -- a look that is resumed comes nearer to its end
 pub less_left : (part : TabletRows) (next old : Option PartWalkValue) (walk : PartWalkValue) → next ≡ going_in part → old ≡ Some walk → left_in part < part_left walk → steps_left next < steps_left old
-less_left (FoundAll rows more looked) next old walk is was less = let none = ap steps_left is in let some = ap steps_left was in omega (arith, less)
+less_left (FoundAll rows more spent) next old walk is was less = let none = ap steps_left is in let some = ap steps_left was in omega (arith, less)
 less_left (Rest rest) next old walk is was less = let left = ap steps_left is in let some = ap steps_left was in omega (arith, less)

@@ -10,16 +10,14 @@ use Rattle.serde_json.specs.Find.{as_str, as_array}
 use Rattle.serde_json.specs.View.{items_of}
 use Rattle.pn_json.specs.Answers.{◌>>=◌}
 use Rattle.pn_json.specs.Members.{each_in}
-use Rattle.pn_json.proofs.Inverses.{bind_ok, ok_or_ok, and_then_some, string_from_as_str, array_from_as_array}
-use Rattle.pn_record.specs.BodyGrammar.{value_in}
+use Rattle.pn_json.proofs.LookUps.{bind_ok, ok_or_ok, and_then_some, string_from_as_str, array_from_as_array}
+use Rattle.pn_record.specs.Grammar.{value_in}
 use Rattle.pn_record.specs.Limits.{FieldValue, number_value, text_value, is_number, is_value}
 use Rattle.pn_record.specs.Writing.{value_data}
-use Rattle.pn_record.proofs.Values.{field_value, value_from, value_in-value_data}
+use Rattle.pn_record.proofs.ShapeParts.{field_value, value_from, value_in-value_data}
 use Rattle.pn_scan.specs.Queries.{ConditionValue, has, eq, lt, gt, prefix, is_condition, number_fits, operand_fits}
-use Rattle.pn_scan.specs.QueryJson.{parts_data, condition_data, conditions_data}
-use Rattle.pn_scan.specs.ConditionWords.{lone_condition, prefix_condition, comparing_condition}
-use Rattle.pn_scan.specs.ConditionReading.{lone_in, comparing_in, condition_in, condition_at, conditions_at}
-use Rattle.pn_scan.specs.declared.query_reading.QueryFault.TheVariants.{BadShape}
+use Rattle.pn_scan.specs.QueryReading.{parts_data, condition_data, conditions_data, lone_condition, prefix_condition, comparing_condition, lone_in, comparing_in, condition_in, condition_at, conditions_at}
+use Rattle.pn_scan.specs.declared.query_json.QueryFault.TheVariants.{BadShape}
 
 -- ---- numbers
 

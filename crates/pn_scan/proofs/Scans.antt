@@ -1,24 +1,59 @@
--- A page that looks into one tablet after another.
-use Rattle.std.proofs.Common.{◌≡◌, ℕ, zero, suc, ◌+◌, ◌-◌, ◌<◌, ◌≤◌, inl, inr, Bool, true, false, List, [], ◌∷◌, ◌++◌, length, take, drop, Option, Some, None, Result, Ok, Err, refl, sym, ap, ◌∙◌, subst, arith, append-nil, length-append}
-use Rattle.std.specs.List.{AllByRecursion, flat_map, range_with_len}
+-- A page that looks into one tablet after another, from its beginning to its last row.
+use Rattle.std.proofs.Common.{◌≡◌, ℕ, zero, suc, ◌+◌, ◌<◌, [], ◌++◌, take, Option, refl, sym, ◌∙◌, subst, arith, ◌-◌, List, ◌∷◌, length, slice_get, Some, None, ap, ◌≤◌, Bool, true, false, drop, Ok, append-nil, length-append}
+use Rattle.std.specs.Prelude.{IfSome}
+use Rattle.std.specs.List.{last_or, AllByRecursion, flat_map}
 use Rattle.std.specs.Option.{option_or}
 use Rattle.std.proofs.Math.Seq.{take-append-add}
 use Rattle.std.proofs.lemmas.List.{take_all, take-append-le, take-append-drop, length-take}
 use Rattle.std.proofs.lemmas.List.Elements.{filter-append}
-use Rattle.std.proofs.lemmas.List.FromFn.{length-range_with_len}
 use Rattle.std.proofs.lemmas.Grind.{flat_map-append}
-use Rattle.pn_record.specs.CellMap.{Entries}
+use Rattle.pn_record.specs.Cells.{Entries}
 use Rattle.pn_tablet.specs.Layouts.{Bounds}
-use Rattle.pn_tablet.specs.Refusals.{IsRight, Refuses}
+use Rattle.pn_tablet.specs.Steps.{IsRight}
+use Rattle.pn_scan.specs.Pages.{Look, cells_in, rows_in, refusal, first_refusal, unless}
+use Rattle.pn_scan.specs.Paging.{IsNewWalk, IsOnPage, rows_to_come}
 use Rattle.pn_scan.specs.Queries.{QueryValue}
+use Rattle.pn_scan.specs.WalkValues.{PageWalkValue, PartWalkValue}
 use Rattle.pn_scan.specs.Shown.{is_shown, shown_rows}
-use Rattle.pn_scan.specs.Candidates.{Look, cells_in, candidates, rows_in, visited}
-use Rattle.pn_scan.specs.Pages.{refusal, first_refusal, unless}
-use Rattle.pn_scan.specs.Views.{IsFoundIn, Looks, is_memory}
-use Rattle.pn_scan.specs.Visits.{GoesOn, IsVisit, IsScan, rows_after}
-use Rattle.pn_scan.specs.declared.fault.ScanFault.{ScanFault}
-use Rattle.pn_scan.specs.declared.fault.ScanFault.TheVariants.{Memory}
-use Rattle.pn_scan.proofs.Numbers.{Numbered, numbered_more, in_order, AllFew, all_visited}
+use Rattle.pn_scan.specs.Views.{IsFoundIn, Looks, GoesOn}
+use Rattle.pn_scan.specs.declared.view.ScanFault.{ScanFault}
+use Rattle.pn_scan.proofs.Continuing.{AllFew}
+
+-- A page of which nothing was looked for is as far as no look leads.
+
+abbrev no_rows : Entries
+no_rows = []
+
+none_taken : (n : ℕ) → take n no_rows ≡ []
+none_taken zero = refl
+none_taken (suc n) = refl
+
+pub new_page : {V : Type 0} (looks : V → Look → V → Type 0) (bounds : Bounds) (query : QueryValue) (walk : PageWalkValue) → IsNewWalk bounds query walk → IsOnPage looks bounds query walk []
+new_page looks bounds query walk new = record {
+  made = tt;
+  visit = record {
+    found = tt;
+    order = refl;
+    only = λ n inside. absurd (omega (arith, inside));
+  };
+  none_refused = refl;
+  to_come = new.2;
+  rows_are = (λ i. new.0 i ++ rows_to_come query (new.1 i)) ∙ sym (none_taken (query.limit + 1));
+  begun = subst (λ (o : Option PartWalkValue). IfSome o (λ part. 0 < 0)) (sym new.1) tt;
+}
+
+-- The last of the rows of a page.
+
+last_at : {A : Type 0} (o : Option A) (x : A) (xs : List A) → last_or o (x ∷ xs) ≡ slice_get (x ∷ xs) (length xs)
+last_at o x [] = refl
+last_at o x (y ∷ ys) = last_at (Some x) y ys
+
+-- the last item is that at the last index
+pub last_index : {A : Type 0} (xs : List A) → last_or None xs ≡ slice_get xs (length xs - 1)
+last_index [] = refl
+last_index (x ∷ xs) = let e : length xs ≡ suc (length xs) - 1 = omega arith in last_at None x xs ∙ ap (slice_get (x ∷ xs)) e
+
+-- The looks of a page, one after another.
 
 -- one look more
 pub looks_more : {V : Type 0} (looks : V → Look → V → Type 0) (old between new : V) (seen : List Look) (look : Look) → Looks looks old seen between → looks between look new → Looks looks old (seen ++ look ∷ []) new
@@ -77,29 +112,6 @@ goes_on_more query seen look n on inside =
 pub few_more : (query : QueryValue) (seen : List Look) (look : Look) → GoesOn query seen → AllFew query (seen ++ look ∷ [])
 few_more query seen look on k inside = (goes_on_more query seen look k on inside).few
 
-all_few : (query : QueryValue) (seen : List Look) → GoesOn query seen → AllFew query seen
-all_few query seen on k inside = (goes_on_before query k seen on).few
-
--- a page so far: what it looked at shows the rows that it has, and it goes on
-pub record IsWalked {V : Type 0} (looks : V → Look → V → Type 0) (bounds : Bounds) (query : QueryValue) (first tablet : ℕ) (old now : V) (rows : Entries) (seen : List Look) : Type 0 where
-  pub looked : Looks looks old seen now
-  pub found : AllByRecursion (IsFoundIn bounds) seen
-  pub numbered : Numbered first seen
-  pub count : first + length seen ≡ tablet
-  pub on : GoesOn query seen
-  pub shows : rows ≡ rows_in query seen
-
--- it has looked at nothing
-pub walked_none : {V : Type 0} (looks : V → Look → V → Type 0) (bounds : Bounds) (query : QueryValue) (first : ℕ) (now : V) → IsWalked looks bounds query first first now now [] []
-walked_none looks bounds query first now = record {
-  looked = refl;
-  found = tt;
-  numbered = tt;
-  count = omega arith;
-  on = record { none_refused = refl; few = omega arith };
-  shows = refl;
-}
-
 pub is_right_too : {A B : Type 0} (memory : Bool) (why : ScanFault) (o : Option ScanFault) (a : A) (b : B) → IsRight memory why (unless o a) → IsRight memory why (unless o b)
 is_right_too true why None a b right = refl
 is_right_too true why (Some w) a b right = right
@@ -122,111 +134,6 @@ all_taken limit all few = take_all (limit + 1) all (omega (arith, length-take (l
 pub more_left : (limit : ℕ) (all : Entries) → limit < length (take (limit + 1) all) → limit < length all
 more_left limit all more = omega (arith, length-take (limit + 1) all, more)
 
-module _ {V : Type 0} {looks : V → Look → V → Type 0} {bounds : Bounds} {query : QueryValue} {first tablet : ℕ} {old now : V} {rows : Entries} {seen : List Look} (count : ℕ) (range : candidates bounds query ≡ range_with_len first count) (walked : IsWalked looks bounds query first tablet old now rows seen) where
-  -- one look more
-  module _ (inside : tablet < first + count) {look : Look} (here : look.0 ≡ tablet) {new : V} {same : Bounds} (is : same ≡ bounds) (looked : looks now look new) (there : IsFoundIn same look) where
-    found : IsFoundIn bounds look
-    found = subst (λ (b : Bounds). IsFoundIn b look) is there
-
-    numbered : Numbered first (seen ++ look ∷ [])
-    numbered = numbered_more first seen look walked.numbered (here ∙ sym walked.count)
-
-    size : length (seen ++ look ∷ []) ≡ length seen + 1
-    size = length-append seen (look ∷ [])
-
-    short : length (seen ++ look ∷ []) ≤ count
-    short = omega (arith, size, walked.count, inside)
-
-    few : length rows ≤ query.limit
-    few = subst (λ (es : Entries). length es ≤ query.limit) (sym walked.shows) walked.on.few
-
-    visit : IsVisit bounds query (seen ++ look ∷ [])
-    visit = record {
-      found = found_more bounds seen look walked.found found;
-      order = in_order first count (seen ++ look ∷ []) numbered short ∙ ap (λ (l : List ℕ). take (length (seen ++ look ∷ [])) l) (sym range);
-      only = λ n within. goes_on_more query seen look n walked.on within;
-    }
-
-    refused : first_refusal (visited bounds query (seen ++ look ∷ [])) ≡ refusal look
-    refused = ap first_refusal (all_visited bounds query first count (seen ++ look ∷ []) range short numbered (few_more query seen look walked.on)) ∙ refused_last seen look walked.on.none_refused
-
-    -- a look that was refused, or found no memory, ends the page
-    pub scan_fails : {A B : Type 0} (show : A → B) (why : ScanFault) (right : Entries → B) (answer : Result A ScanFault) → answer ≡ Err why → Refuses is_memory why (rows_after query rows look) → IsScan looks bounds query old new show answer right (seen ++ look ∷ [])
-    scan_fails {A} show why right answer failed refuses = subst (λ (a : Result A ScanFault). IsScan looks bounds query old new show a right (seen ++ look ∷ [])) (sym failed) (record {
-      looked = looks_more looks old now new seen look walked.looked looked;
-      visit = visit;
-      answers = subst (λ (o : Option ScanFault). Refuses is_memory why (unless o (right (rows_in query (seen ++ look ∷ []))))) (sym refused)
-          (is_right_too (is_memory why) why (refusal look) _ (right (rows_in query (seen ++ look ∷ []))) refuses);
-      whole = tt;
-      begun = omega (arith, size);
-    })
-
-    module _ (more : Entries) (right : rows_after query rows look ≡ Ok more) where
-      parts : (refusal look ≡ None) × (more ≡ rows ++ take (query.limit + 1 - length rows) (shown_rows query (cells_in look.1)))
-      parts = ok_value (refusal look) _ more right
-
-      all : List Look
-      all = seen ++ look ∷ []
-
-      front : more ≡ take (query.limit + 1) (rows_in query (seen ++ look ∷ []))
-      front = parts.1 ∙ after_front query.limit rows (shown_rows query (cells_in look.1)) (rows_in query (seen ++ look ∷ [])) few (rows_more query seen look ∙ ap (λ (es : Entries). es ++ shown_rows query (cells_in look.1)) (sym walked.shows))
-
-      -- a look that fills the page ends it
-      pub scan_full : {A : Type 0} (show : A → Entries) (answer : A) → show answer ≡ more → query.limit < length more → IsScan looks bounds query old new show (Ok answer) (take (query.limit + 1)) (seen ++ look ∷ [])
-      scan_full show answer shows full = record {
-        looked = looks_more looks old now new seen look walked.looked looked;
-        visit = visit;
-        answers = ap (λ (o : Option ScanFault). unless o (take (query.limit + 1) (rows_in query (seen ++ look ∷ [])))) (refused ∙ parts.0) ∙ ap (λ (es : Entries). Ok es) (sym front ∙ sym shows);
-        whole = inr (more_left query.limit (rows_in query (seen ++ look ∷ [])) (subst (λ (es : Entries). query.limit < length es) front full));
-        begun = tt;
-      }
-
-      -- and after one that does not, it goes on
-      pub walked_more : length more ≤ query.limit → IsWalked looks bounds query first (tablet + 1) old new more (seen ++ look ∷ [])
-      walked_more little =
-          let same = front ∙ all_taken query.limit (rows_in query (seen ++ look ∷ [])) (subst (λ (es : Entries). length es ≤ query.limit) front little) in
-          record {
-            looked = looks_more looks old now new seen look walked.looked looked;
-            found = found_more bounds seen look walked.found found;
-            numbered = numbered;
-            count = omega (arith, size, walked.count);
-            on = record {
-              none_refused = refused_last seen look walked.on.none_refused ∙ parts.0;
-              few = subst (λ (es : Entries). length es ≤ query.limit) same little;
-            };
-            shows = same;
-          }
-
-  -- where no candidate is left, the page is whole
-  pub scan_ends : {A : Type 0} (show : A → Entries) (answer : A) → show answer ≡ rows → first + count ≤ tablet → length seen ≤ count → IsScan looks bounds query old now show (Ok answer) (take (query.limit + 1)) seen
-  scan_ends show answer shows past within =
-      let none : first_refusal (visited bounds query seen) ≡ None = ap first_refusal (all_visited bounds query first count seen range within walked.numbered (all_few query seen walked.on)) ∙ walked.on.none_refused in
-      let short : length (rows_in query seen) ≤ query.limit + 1 = omega (arith, walked.on.few) in
-      record {
-        looked = walked.looked;
-        visit = record {
-          found = walked.found;
-          order = in_order first count seen walked.numbered within ∙ ap (λ (l : List ℕ). take (length seen) l) (sym range);
-          only = λ n inside. goes_on_before query n seen walked.on;
-        };
-        answers = ap (λ (o : Option ScanFault). unless o (take (query.limit + 1) (rows_in query seen))) none ∙ ap (λ (es : Entries). Ok es) (take_all (query.limit + 1) (rows_in query seen) short ∙ sym walked.shows ∙ sym shows);
-        whole = inl (omega (arith, walked.count, past, within, length-range_with_len first count, ap (λ (l : List ℕ). length l) range));
-        begun = tt;
-      }
-
 pub some_seen : (query : QueryValue) (n : ℕ) (seen : List Look) → n < length (take (query.limit + 1) (rows_in query seen)) → 0 < length seen
 some_seen query n [] some = absurd (omega (arith, length-take (query.limit + 1) (rows_in query []), some))
 some_seen query n (look ∷ seen) some = omega arith
-
--- rows that were read, and no memory left to end their page
-pub scan_unpaged : {V A B C : Type 0} {looks : V → Look → V → Type 0} {bounds : Bounds} {query : QueryValue} {old new : V} {show : A → Entries} {rows : A} {seen : List Look} → IsScan looks bounds query old new show (Ok rows) (take (query.limit + 1)) seen
-    → (shown : B → C) (answer : Result B ScanFault) (right : Entries → C) → answer ≡ Err Memory → query.limit < length (show rows) → IsScan looks bounds query old new shown answer right seen
-scan_unpaged {B = B} {looks = looks} {bounds = bounds} {query = query} {old = old} {new = new} {show = show} {rows = rows} {seen = seen} scan shown answer right failed full =
-    let parts = ok_value (first_refusal (visited bounds query seen)) (take (query.limit + 1) (rows_in query seen)) (show rows) scan.answers in
-    subst (λ (a : Result B ScanFault). IsScan looks bounds query old new shown a right seen) (sym failed) (record {
-      looked = scan.looked;
-      visit = scan.visit;
-      answers = subst (λ (o : Option ScanFault). Refuses is_memory Memory (unless o (right (rows_in query seen)))) (sym parts.0) refl;
-      whole = tt;
-      begun = some_seen query query.limit seen (subst (λ (es : Entries). query.limit < length es) parts.1 full);
-    })

@@ -7,22 +7,18 @@ use Rattle.std.proofs.lemmas.Bool.Decides.{nat_tests}
 use Rattle.std.proofs.lemmas.List.{take-append-le, take-append-drop}
 use Rattle.std.proofs.lemmas.List.Elements.{filter-append}
 use Rattle.std.proofs.lemmas.List.FromFn.{length-range_with_len, length-map-range_with_len}
-use Rattle.pn_record.specs.CellMap.{Entries}
+use Rattle.pn_record.specs.Cells.{Entries}
 use Rattle.pn_json.specs.Answers.{ShowsUnless}
 use Rattle.pn_tablet.specs.Layouts.{Bounds, IsLayout}
 use Rattle.pn_tablet.specs.Tablets.{TabletStateValue}
 use Rattle.pn_scan.specs.Queries.{QueryValue, query_after}
-use Rattle.pn_scan.specs.Candidates.{Look, is_candidate, candidates, rows_in, is_visited, candidates_of, visited}
-use Rattle.pn_scan.specs.Pages.{PageValue, refusal, first_refusal, first_page, page_of, unless}
-use Rattle.pn_scan.specs.Views.{IsFoundIn, Looks, LooksAt}
-use Rattle.pn_scan.specs.Visits.{IsVisit, IsWhole, IsScan}
-use Rattle.pn_scan.specs.Walks.{looks_of}
-use Rattle.pn_scan.specs.declared.fault.ScanFault.{ScanFault}
-use Rattle.pn_scan.specs.declared.fault.ScanFault.TheVariants as fault
-use Rattle.pn_scan.proofs.CandidateRows.{rows_of_candidates}
-use Rattle.pn_scan.proofs.Visiting.{AreRange, range_of, visited_in, not_visited}
-use Rattle.pn_scan.proofs.InOrder.{AreThere}
-use Rattle.pn_scan.proofs.Numbers.{Numbered, AllFew, numbered_split, keeps_all, all_visited}
+use Rattle.pn_scan.specs.Pages.{Look, is_candidate, candidates, rows_in, is_visited, candidates_of, visited, PageValue, refusal, first_refusal, first_page, page_of, unless}
+use Rattle.pn_scan.specs.Views.{IsFoundIn, Looks, LooksAt, IsVisit, IsWhole, IsScan, looks_of}
+use Rattle.pn_scan.specs.declared.view.ScanFault.{ScanFault}
+use Rattle.pn_scan.specs.declared.view.ScanFault.TheVariants as fault
+use Rattle.pn_scan.proofs.InOrder.{rows_of_candidates, AreThere}
+use Rattle.pn_scan.proofs.CandidateRange.{AreRange, range_of, visited_in, not_visited}
+use Rattle.pn_scan.proofs.Continuing.{Numbered, AllFew, numbered_split, keeps_all, all_visited}
 use Rattle.pn_scan.proofs.Scans.{rows-append, ok_value, or_none}
 
 lt_true : (m n : ℕ) → m < n → nat_lt m n ≡ true

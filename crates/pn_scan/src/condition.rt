@@ -4,7 +4,7 @@ ghost use Rattle.std.specs.Prelude.{◌≡◌, map, option_map, IfOk};
 ghost use Rattle.std.specs.List.{list_all};
 ghost use Rattle.pn_record.specs.Prelude.{shown_ref};
 ghost use Rattle.pn_scan.specs.Queries.{is_condition, shown_condition};
-ghost use Rattle.pn_scan.specs.QueryJson.{condition_data, parts_data};
+ghost use Rattle.pn_scan.specs.QueryReading.{condition_data, parts_data};
 
 use pn_join::NoMemory;
 use pn_record::{Value, ValueRef, is_field};

@@ -6,14 +6,12 @@ ghost use Rattle.std.specs.List.{list_all};
 ghost use Rattle.std.specs.Option.{option_copied};
 ghost use Rattle.pn_record.specs.Prelude.{bytes_cmp, shown_field, shown_value};
 ghost use Rattle.pn_tablet.specs.Prelude.{is_from as from_end, is_before as before_end};
-ghost use Rattle.pn_scan.specs.Queries.{shown_condition};
-ghost use Rattle.pn_scan.specs.Conditions.{field_of as name_of, are_equal as equal_values, begins_with as has_prefix};
-ghost use Rattle.pn_scan.specs.Conditions.{comes_before as is_before_value, is_met as value_met, meets as one_met, shows as all_met};
-ghost use Rattle.pn_scan.specs.Shown.{is_after as after_end, is_shown_from};
-ghost use Rattle.pn_scan.specs.Works.{contents_work, shows_from, Knows, Stops};
-ghost use Rattle.pn_scan.specs.declared.work.TheConstants.{MAX_COMPARED, MAX_PART_WORK};
+ghost use Rattle.pn_scan.specs.Queries.{shown_condition, field_of as name_of, are_equal as equal_values, begins_with as has_prefix};
+ghost use Rattle.pn_scan.specs.Queries.{comes_before as is_before_value, is_met as value_met, meets as one_met, shows as all_met};
+ghost use Rattle.pn_scan.specs.Shown.{is_after as after_end, is_shown_from, contents_work, shows_from, Knows, Stops};
+ghost use Rattle.pn_scan.specs.declared.walk.TheConstants.{MAX_COMPARED, MAX_PART_WORK};
 
-use crate::work::{content_work, text_bytes};
+use crate::walk::{content_work, text_bytes};
 use crate::{Condition, Query};
 use pn_record::{Body, Cell, Content, Key, Value};
 

@@ -1,23 +1,24 @@
 //! Pages that are resumed.
 
-ghost use Rattle.std.specs.Prelude.{◌≡◌, ◌<◌, ◌≤◌, ◌+◌, ◌*◌, ◌^◌, ◌++◌, ◌⊎◌, true, false, List, length, max, None, IfOk};
+ghost use Rattle.std.specs.Prelude.{◌≡◌, ◌<◌, ◌≤◌, ◌+◌, ◌-◌, ◌*◌, ◌^◌, ◌++◌, ◌⊎◌, true, false, List, length, max, None, IfOk, IfSome};
 ghost use Rattle.pn_tablet.specs.Prelude.{IsLayout};
-ghost use Rattle.pn_scan.specs.Paging.{CountsWork, going_in, rows_to_come, steps_left, IsNearer, IsNewWalk, IsOnPage, LookMade, OnlyLooks, PagesTo};
-ghost use Rattle.pn_scan.specs.Parts.{looked_in, part_at};
+ghost use Rattle.pn_scan.specs.Paging.{CountsWork, going_in, rows_to_come, steps_left, IsNearer, IsNewWalk, IsOnPage, LookMade, OnlyLooks, PagesTo, spent_in};
+ghost use Rattle.pn_scan.specs.Paging.{part_at};
 ghost use Rattle.pn_scan.specs.Queries.{QueryValue};
-ghost use Rattle.pn_scan.specs.Works.{units_in};
+ghost use Rattle.pn_scan.specs.Shown.{units_in};
 ghost use Rattle.pn_scan.specs.declared.page_walk.TheConstants.{LOOK_UNITS};
-ghost use Rattle.pn_scan.specs.declared.work.TheConstants.{MAX_PART_WORK, UNIT_WORK};
+ghost use Rattle.pn_scan.specs.declared.walk.TheConstants.{MAX_PART_WORK, UNIT_WORK};
 
 use crate::pages::{candidates, page_of, put_after};
-use crate::work::{MAX_PART_WORK, units_of, work_of};
+use crate::walk::{MAX_PART_WORK, units_of, work_of};
 use crate::{Budget, Page, PartWalk, Query, Row, ScanFault, TabletRows, View};
 use pn_join::NoMemory;
 use pn_tablet::Layout;
 use std::alloc::Global;
 use std::marker::Model;
 
-/// How many units of work the first look into a tablet does, where the tablets may change meanwhile, before it is resumed.
+/// How many units of work the first look into a tablet does, where the tablets may change meanwhile, before it is resumed. Whoever changes the
+/// tablet may wait for it. A page without conditions is no more work, and to take the other records costs more than this.
 pub const LOOK_UNITS: u32 = 64;
 
 /// What a page comes to where it is resumed.
@@ -47,7 +48,7 @@ impl Model for PageWalk {
 
     ghost Value = { PageWalkValue };
 
-    ghost use Rattle.pn_scan.specs.Coding.{page_walk_code};
+    ghost use Rattle.pn_scan.specs.WalkValues.{page_walk_code};
 
     ghost coded = { page_walk_code };
 
@@ -82,6 +83,17 @@ impl PageWalk {
     {
         if let Some(part) = &self.part {
             part.recall_left();
+        }
+    }
+
+    /// How many units of work a step does where nobody waits for it: those of a first look, or the rest of a look that was begun.
+    pub(crate) fn most_units(&self) -> u32
+        ensures first { self.now.part ≡ None → result ≡ LOOK_UNITS }
+        ensures rest { IfSome self.now.part (λ _. result ≡ 2 ^ 32 - 1) }
+    {
+        match &self.part {
+            Some(_) => u32::MAX,
+            None => LOOK_UNITS,
         }
     }
 
@@ -167,7 +179,7 @@ impl PageWalk {
         ensures rows { IfOk result (λ walk. (query : QueryValue) → walk.rows ++ rows_to_come query walk.part ≡ self.rows ++ (part_at query part).0) }
         ensures part { IfOk result (λ walk. walk.part ≡ going_in part) }
         ensures ends { IfOk result (λ walk. (walk.next ≡ self.next) × (walk.end ≡ self.end)) }
-        ensures units { IfOk result (λ walk. walk.units ≡ units_in (looked_in most part)) }
+        ensures units { IfOk result (λ walk. walk.units ≡ units_in (spent_in most part)) }
     {
         let PageWalk {
             rows,
@@ -176,12 +188,12 @@ impl PageWalk {
             ..
         } = self;
         match part {
-            TabletRows::Done(more, _, looked) => Ok(PageWalk {
+            TabletRows::Done(more, _, spent) => Ok(PageWalk {
                 rows: put_after(rows, more)?,
                 part: None,
                 tablet,
                 end,
-                units: units_of(looked),
+                units: units_of(spent),
             }),
             TabletRows::Rest(part) => Ok(PageWalk {
                 rows,

@@ -1,19 +1,15 @@
 //! Pages of the rows of a query, read tablet by tablet.
 
-ghost use Rattle.std.specs.Prelude.{◌≡◌, ℕ, ◌+◌, ◌-◌, ◌<◌, ◌≤◌, ◌++◌, List, length, take, max, option_map, nat_lt, Option, Some, None, IfOk, OnErr};
+ghost use Rattle.std.specs.Prelude.{◌≡◌, ℕ, ◌+◌, ◌-◌, ◌<◌, ◌≤◌, ◌++◌, List, length, take, max, option_map, nat_lt, Some, None, IfOk, OnErr};
 ghost use Rattle.std.specs.List.{range_with_len, last_or};
 ghost use Rattle.std.specs.Option.{option_copied};
 ghost use Rattle.pn_record.specs.Prelude.{Entries};
-ghost use Rattle.pn_tablet.specs.Prelude.{tablet_ends, TabletStateValue};
+ghost use Rattle.pn_tablet.specs.Prelude.{tablet_ends};
 ghost use Rattle.pn_scan.specs.Queries.{query_after};
-ghost use Rattle.pn_scan.specs.Candidates.{Look, candidates as all_candidates, first_tablet as named_tablet, begins_before as bound_before};
-ghost use Rattle.pn_scan.specs.Pages.{first_page};
-ghost use Rattle.pn_scan.specs.Views.{LooksOnce};
-ghost use Rattle.pn_scan.specs.Visits.{IsScan, rows_after};
+ghost use Rattle.pn_scan.specs.Pages.{Look, candidates as all_candidates, first_tablet as named_tablet, begins_before as bound_before, first_page};
+ghost use Rattle.pn_scan.specs.Views.{IsScan};
 
-use crate::page_walk::LOOK_UNITS;
-use crate::work::work_of;
-use crate::{Budget, Page, Query, Row, ScanFault, View};
+use crate::{Page, PageStep, PageWalk, Query, Row, ScanFault, View};
 use pn_join::NoMemory;
 use pn_record::Key;
 use pn_tablet::Layout;
@@ -30,48 +26,18 @@ pub fn page<V: View>(alloc: Global, view: &mut V, query: &Query) -> Result<Page,
         (first_page query.now) seen }
     ensures layout { V.bounds view.new ≡ V.bounds view.old }
 {
-    let rows = gather_rows(alloc, view, query)?;
-    Ok(page_of(alloc, query, rows)?)
-}
-
-// The rows of a page, and the one after them, if there is one.
-fn gather_rows<V: View>(alloc: Global, view: &mut V, query: &Query) -> Result<Vec<Row>, ScanFault>
-    ensures scan { (seen : List Look) × IsScan V.looks (V.bounds view.old) query.now view.old view.new (λ rows. rows.items) result
-        (take (query.now.limit + 1)) seen }
-    ensures layout { V.bounds view.new ≡ V.bounds view.old }
-{
-    let (first, end) = candidates(view.layout(), query);
-    let mut rows = Vec::new(alloc);
-    for tablet in first..end {
-        rows = read_on(alloc, view, tablet, query, rows)?;
-        if rows.len() > query.limit() {
-            return Ok(rows);
+    let mut walk = PageWalk::new(alloc, view.layout(), query);
+    'steps: loop {
+        let units = walk.most_units();
+        let step = walk.go_on(alloc, view, query, units)?;
+        match step {
+            PageStep::Done(page) => return Ok(page),
+            PageStep::Next(next) => {
+                next.recall_steps();
+                walk = next;
+            }
         }
     }
-    Ok(rows)
-}
-
-// The rows with those of one more tablet, up to one more than a page has.
-fn read_on<V: View>(
-    alloc: Global,
-    view: &mut V,
-    tablet: usize,
-    query: &Query,
-    rows: Vec<Row>,
-) -> Result<Vec<Row>, ScanFault>
-    requires tablet { tablet ≤ length (V.bounds view.old) }
-    requires few { length rows.items ≤ query.now.limit }
-    ensures look { (found : Option TabletStateValue) × LooksOnce V.looks (V.bounds view.old) view.old view.new (λ rows. rows.items) result
-        (rows_after query.now rows.items) (tablet, found) }
-    ensures layout { V.bounds view.new ≡ V.bounds view.old }
-{
-    let room = query.limit() + 1 - rows.len();
-    let budget = Budget {
-        alloc,
-        work: work_of(LOOK_UNITS),
-    };
-    let part = view.part(tablet, query, room, budget)?;
-    Ok(put_after(rows, part.into_rows(query)?)?)
 }
 
 /// The rows with the further ones after them.

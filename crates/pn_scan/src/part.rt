@@ -5,11 +5,11 @@ ghost use Rattle.std.specs.FinMap.{is_sorted};
 ghost use Rattle.std.specs.Option.{option_copied, option_map_or};
 ghost use Rattle.std.specs.Ordering.{is_lt};
 ghost use Rattle.pn_scan.specs.Pages.{refusal, unless};
-ghost use Rattle.pn_scan.specs.Parts.{looked_in, part_at, walk_answer};
+ghost use Rattle.pn_scan.specs.Paging.{spent_in, part_at, walk_answer};
 ghost use Rattle.pn_scan.specs.Views.{Answers, rows_at, cell_at};
 ghost use Rattle.pn_scan.specs.Shown.{shown_rows};
 ghost use Rattle.pn_record.specs.Prelude.{bytes_cmp};
-ghost use Rattle.pn_scan.specs.declared.work.TheConstants.{MAX_PART_WORK};
+ghost use Rattle.pn_scan.specs.declared.walk.TheConstants.{MAX_PART_WORK};
 
 use crate::walk::{PartWalk, Place, WalkOutcome, walk_some};
 use crate::{Budget, PartResult, Query, Row, ScanFault, TabletRows};
@@ -29,7 +29,7 @@ pub fn part_of(
     budget: Budget,
 ) -> PartResult
     ensures answers { Answers (part_at query.now) result (rows_at query.now room (tablet, Some state.now)) }
-    ensures few { IfOk result (λ part. looked_in (max budget.work MAX_PART_WORK) part ≤ max budget.work MAX_PART_WORK) }
+    ensures few { IfOk result (λ part. spent_in (max budget.work MAX_PART_WORK) part ≤ max budget.work MAX_PART_WORK) }
 {
     check_serving(state, tablet)?;
     Ok(begin_walk(state.cells(), query, room, budget)?)
@@ -44,14 +44,14 @@ fn begin_walk(
     budget: Budget,
 ) -> Result<TabletRows, NoMemory>
     ensures same { IfOk result (λ part. part_at query.now part ≡ walk_answer query.now (record { rows = []; rest = cells.now; seen = 0; room = room })) }
-    ensures few { IfOk result (λ part. looked_in (max budget.work MAX_PART_WORK) part ≤ max budget.work MAX_PART_WORK) }
+    ensures few { IfOk result (λ part. spent_in (max budget.work MAX_PART_WORK) part ≤ max budget.work MAX_PART_WORK) }
 {
     let mut rows = Vec::with_capacity(budget.alloc, room.min(cells.len()))?;
     let index = first_index(cells, query);
     prefetch_cells(cells, index, query, room.min(budget.work));
     let from = Place { index, seen: 0 };
     match walk_some(cells, from, query, room, budget.work, &mut rows)? {
-        WalkOutcome::All(more, looked) => Ok(TabletRows::Done(rows, more, looked)),
+        WalkOutcome::All(more, spent) => Ok(TabletRows::Done(rows, more, spent)),
         WalkOutcome::To(next) => take_rest(cells, next, query, rows, room),
     }
 }
@@ -72,7 +72,7 @@ fn take_rest(
       seen = next.seen;
       room = room;
     })) }
-    ensures rest { IfOk result (λ part. (most : ℕ) → looked_in most part ≡ most) }
+    ensures rest { IfOk result (λ part. (most : ℕ) → spent_in most part ≡ most) }
 {
     let end = end_of_range(cells, query).max(next.index);
     let rest = cells.slice(next.index, end)?;

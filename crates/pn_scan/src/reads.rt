@@ -1,13 +1,12 @@
 //! Reads of single records.
 
-ghost use Rattle.std.specs.Prelude.{◌≡◌, ◌+◌, ◌<◌, ◌++◌, ◌∷◌, [], List, Option, Ok, Err, Result, true, false, length};
-ghost use Rattle.std.specs.Prelude.{IfOk, IfErr, IfSome, IsSomeAnd, IsOkAnd, IsErrOf, vec_capacity, vec_len};
+ghost use Rattle.std.specs.Prelude.{◌≡◌, ◌+◌, ◌<◌, ◌++◌, ◌∷◌, [], List, Option, Ok, Err, Result, true, false, length, IfOk, IfErr, IfSome, IsSomeAnd, IsOkAnd};
+ghost use Rattle.std.specs.Prelude.{IsErrOf, vec_capacity, vec_len};
 ghost use Rattle.std.specs.Option.{option_copied};
 ghost use Rattle.pn_tablet.specs.Prelude.{version_at, tablet_of, TabletStateValue};
-ghost use Rattle.pn_scan.specs.Candidates.{Look};
-ghost use Rattle.pn_scan.specs.Reads.{IsGet, IsRead, reaches as version_reaches};
-ghost use Rattle.pn_scan.specs.Views.{is_memory};
-ghost use Rattle.pn_scan.specs.declared.fault.ScanFault.TheVariants.{Behind};
+ghost use Rattle.pn_scan.specs.Pages.{Look};
+ghost use Rattle.pn_scan.specs.Views.{IsGet, IsRead, reaches as version_reaches, is_memory};
+ghost use Rattle.pn_scan.specs.declared.view.ScanFault.TheVariants.{Behind};
 
 use crate::{ScanFault, View};
 use pn_record::{Cell, Key, Version};

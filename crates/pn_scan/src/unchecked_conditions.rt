@@ -6,9 +6,8 @@ ghost use Rattle.serde_json.specs.View.{view, items_view};
 ghost use Rattle.pn_json.specs.Prelude.{seen, each_in};
 ghost use Rattle.pn_record.specs.Prelude.{shown_ref};
 ghost use Rattle.pn_scan.specs.Queries.{shown_condition, is_condition};
-ghost use Rattle.pn_scan.specs.ConditionReading.{condition_in, lone_in, comparing_in, conditions_in, conditions_at as conditions_spelled, condition_at};
-ghost use Rattle.pn_scan.specs.ConditionWords.{lone_condition as lone_of, comparing_condition as comparing_of};
-ghost use Rattle.pn_scan.specs.UncheckedQueries.{AreParsed, are_conditions};
+ghost use Rattle.pn_scan.specs.QueryReading.{condition_in, lone_in, comparing_in, conditions_in, conditions_at as conditions_spelled, condition_at};
+ghost use Rattle.pn_scan.specs.QueryReading.{lone_condition as lone_of, comparing_condition as comparing_of, AreParsed, are_conditions};
 
 use crate::condition::ConditionRef;
 use crate::{Condition, MAX_CONDITIONS, QueryFault};
@@ -31,7 +30,7 @@ pub(crate) struct UncheckedConditions<'v> {
 impl<'v> Model for UncheckedConditions<'v> {
     ghost use Rattle.std.specs.Prelude.{List, option_map};
     ghost use Rattle.pn_scan.specs.Queries.{ConditionValue};
-    ghost use Rattle.pn_scan.specs.UncheckedQueries.{AreParsed, conditions_among};
+    ghost use Rattle.pn_scan.specs.QueryReading.{AreParsed, conditions_among};
 
     ghost Value = { List ConditionValue };
 

@@ -1,16 +1,43 @@
-//! Views, through which tablets are read, and the rows and pages that they give.
+//! Views, through which tablets are read, the rows and pages that they give, and why a read was refused.
 
 ghost use Rattle.std.specs.Prelude.{◌≡◌, ◌≤◌, ℕ, Option, length, IfOk};
+ghost use Rattle.pn_scan.specs.declared.view.ScanFault.TheVariants.{Memory};
 ghost use Rattle.pn_tablet.specs.Prelude.{Bounds, tablet_of, TabletStateValue};
-ghost use Rattle.pn_scan.specs.Candidates.{Look};
-ghost use Rattle.pn_scan.specs.Parts.{looked_in, part_at};
+ghost use Rattle.pn_scan.specs.Pages.{Look};
+ghost use Rattle.pn_scan.specs.Paging.{spent_in, part_at};
 ghost use Rattle.pn_scan.specs.Views.{LooksOnce, rows_at, cell_at};
 
-use crate::{Query, ScanFault, TabletRows};
-use pn_record::{Cell, Key};
+use crate::{Query, TabletRows};
+use pn_join::NoMemory;
+use pn_record::{Cell, Key, Version};
 use pn_tablet::Layout;
 use std::alloc::Global;
 use std::marker::Model;
+use thiserror::Error;
+
+/// Why a page, a get or a read was refused.
+#[derive(Debug, Drop, Error)]
+pub enum ScanFault {
+    /// The tablet of this number is recovering.
+    #[error("tablet {0} is recovering")]
+    Recovering(usize),
+    /// The record is absent or older than the required version. Only `read_at_least` returns it.
+    #[error("behind")]
+    Behind { has: Option<Version> },
+    #[error("out of memory")]
+    Memory,
+    /// The view could not enter a tablet. A view of plain states always can.
+    #[error("no entry")]
+    NoEntry,
+}
+
+impl From<NoMemory> for ScanFault {
+    ghost from_gives = { λ _ fault. fault ≡ Memory };
+
+    fn from(_error: NoMemory) -> ScanFault {
+        ScanFault::Memory
+    }
+}
 
 /// A record of a page: its key and its whole cell.
 #[derive(Debug, Drop)]
@@ -77,7 +104,7 @@ pub trait View {
         requires { tablet ≤ length (bounds self.old) }
         ensures look { (found : Option TabletStateValue) × LooksOnce looks (bounds self.old) self.old self.new (part_at query.now) result
             (rows_at query.now room) (tablet, found) }
-        ensures few { IfOk result (λ part. looked_in (most budget.work) part ≤ most budget.work) }
+        ensures few { IfOk result (λ part. spent_in (most budget.work) part ≤ most budget.work) }
         ensures layout { bounds self.new ≡ bounds self.old };
 
     /// The cell of a key, if it has one, read in the key's own tablet. Errors are those of `part`.

@@ -1,17 +1,103 @@
-//! Looks into one tablet that are resumed.
+//! Looks into one tablet that are resumed, and what looking at records counts for.
 
-ghost use Rattle.std.specs.Prelude.{◌≡◌, ◌<◌, ◌≤◌, ◌^◌, drop, length, max, IfOk};
-ghost use Rattle.pn_scan.specs.Walking.{WalksTo};
-ghost use Rattle.pn_scan.specs.Parts.{part_at, walk_answer, left_in, part_left, LooksAtMost};
-ghost use Rattle.pn_scan.specs.declared.work.TheConstants.{MAX_PART_WORK};
+ghost use Rattle.std.specs.Prelude.{◌≡◌, ◌≤◌, ◌+◌, ◌-◌, ◌*◌, ◌/◌, ◌^◌, min, map, ◌<◌, drop, length, max, IfOk};
+ghost use Rattle.std.specs.List.{sum_by};
+ghost use Rattle.pn_record.specs.Prelude.{shown_value};
+ghost use Rattle.pn_scan.specs.Queries.{shown_condition};
+ghost use Rattle.pn_scan.specs.Shown.{condition_bytes, content_work as work_of_content, fields_in, units_in, value_bytes, WalksTo};
+ghost use Rattle.pn_scan.specs.Paging.{part_at, walk_answer, left_in, part_left, LooksAtMost};
+ghost use Rattle.pn_scan.specs.declared.walk.TheConstants.{MAX_PART_WORK};
 
 use crate::filter::look_at;
 use crate::part::row_of;
-use crate::{Query, Row};
+use crate::{Condition, Query, Row};
 use pn_join::NoMemory;
-use pn_record::Records;
+use pn_record::{Body, Content, Records, Value};
 use pn_tablet::is_before;
 use std::marker::Model;
+
+/// How much work a unit is. A record with one content counts two where its conditions are cheap.
+pub const UNIT_WORK: usize = 32;
+
+/// The most that a content counts for beside one.
+pub(crate) const MAX_COMPARED: usize = 384;
+
+/// The most that the first content of a look counts for, with its record.
+pub const MAX_PART_WORK: usize = MAX_COMPARED + 2;
+
+/// How many pairs of a condition and a field count one.
+pub(crate) const COMPARED_PAIRS: usize = 4;
+
+/// How many bytes of the conditions' texts count one.
+pub(crate) const COMPARED_BYTES: usize = 512;
+
+/// What a content counts for where it is compared with conditions whose texts have this many bytes.
+pub(crate) fn content_work(conditions: &[Condition], bytes: usize, content: &Content) -> usize
+    requires { bytes ≡ min (sum_by condition_bytes (map shown_condition conditions.now)) (2 ^ 64 - 1) }
+    ensures work { result ≡ work_of_content (map shown_condition conditions.now) content.now.0 }
+    ensures some { 1 ≤ result }
+    ensures few { result ≤ MAX_COMPARED + 1 }
+{
+    let pairs = conditions.len().saturating_mul(count_fields(content));
+    let compared = (pairs / COMPARED_PAIRS).saturating_add(bytes / COMPARED_BYTES);
+    1 + compared.min(MAX_COMPARED)
+}
+
+fn count_fields(content: &Content) -> usize
+    ensures { result ≡ fields_in content.now.0 }
+{
+    match &content.body {
+        Body::Fields(fields) => fields.len(),
+        Body::Deleted => 0,
+    }
+}
+
+/// The bytes of the conditions' texts, as far as that has 64 bits.
+pub(crate) fn text_bytes(conditions: &[Condition]) -> usize
+    ensures { result ≡ min (sum_by condition_bytes (map shown_condition conditions.now)) (2 ^ 64 - 1) }
+{
+    let mut bytes: usize = 0;
+    for condition in conditions {
+        bytes = bytes.saturating_add(bytes_of(condition));
+    }
+    bytes
+}
+
+fn bytes_of(condition: &Condition) -> usize
+    ensures { result ≡ condition_bytes (shown_condition condition.now) }
+{
+    match condition {
+        Condition::Has { .. } => 0,
+        Condition::Eq { value, .. } => bytes_of_value(value),
+        Condition::Lt { value, .. } => bytes_of_value(value),
+        Condition::Gt { value, .. } => bytes_of_value(value),
+        Condition::Prefix { value, .. } => value.len(),
+    }
+}
+
+fn bytes_of_value(value: &Value) -> usize
+    ensures { result ≡ value_bytes (shown_value value.now) }
+{
+    match value {
+        Value::Number(_) => 0,
+        Value::Text(text) => text.len(),
+    }
+}
+
+/// How many whole units some work is, and one more for a rest, as far as that has 32 bits.
+pub(crate) fn units_of(work: usize) -> u32
+    ensures { result ≡ units_in work }
+{
+    u32::try_from(work.div_ceil(UNIT_WORK)).unwrap_or(u32::MAX)
+}
+
+/// How much work units are.
+pub(crate) fn work_of(units: u32) -> usize
+    ensures work { result ≡ UNIT_WORK * units }
+    ensures few { result ≤ UNIT_WORK * (2 ^ 32 - 1) }
+{
+    units as usize * UNIT_WORK
+}
 
 /// What a look into a tablet has of its answer.
 #[derive(Drop)]
@@ -20,18 +106,6 @@ pub enum TabletRows {
     Done(Vec<Row>, bool, usize),
     /// The look is to be resumed, over what it took of the tablet.
     Rest(PartWalk),
-}
-
-impl TabletRows {
-    /// The first rows, once all is looked at.
-    pub fn into_rows(self, query: &Query) -> Result<Vec<Row>, NoMemory>
-        ensures { IfOk result (λ rows. rows.items ≡ (part_at query.now self).0) }
-    {
-        match self {
-            TabletRows::Done(rows, _, _) => Ok(rows),
-            TabletRows::Rest(walk) => walk.into_rows(query),
-        }
-    }
 }
 
 /// How many records were looked at, and how many contents of the next one.
@@ -58,7 +132,7 @@ impl Model for PartWalk {
 
     ghost Value = { PartWalkValue };
 
-    ghost use Rattle.pn_scan.specs.Coding.{part_walk_code};
+    ghost use Rattle.pn_scan.specs.WalkValues.{part_walk_code};
 
     ghost coded = { part_walk_code };
 
@@ -96,7 +170,7 @@ impl PartWalk {
         recall_len(&rest);
         recall_seen(place);
         match walk_some(&rest, place, query, room, work.max(1), &mut rows)? {
-            WalkOutcome::All(more, looked) => Ok(TabletRows::Done(rows, more, looked)),
+            WalkOutcome::All(more, spent) => Ok(TabletRows::Done(rows, more, spent)),
             WalkOutcome::To(place) => Ok(TabletRows::Rest(PartWalk {
                 rest,
                 place,
@@ -111,19 +185,6 @@ impl PartWalk {
         ensures { part_left self.now ≤ 2 ^ 128 }
     {
         recall_len(&self.rest);
-    }
-
-    // The first rows, once all is looked at.
-    fn into_rows(self, query: &Query) -> Result<Vec<Row>, NoMemory>
-        ensures { IfOk result (λ rows. rows.items ≡ (walk_answer query.now self).0) }
-    {
-        let mut walk = self;
-        'looks: loop {
-            match walk.go_on(query, usize::MAX)? {
-                TabletRows::Done(rows, _, _) => return Ok(rows),
-                TabletRows::Rest(rest) => walk = rest,
-            }
-        }
     }
 }
 

@@ -2,7 +2,7 @@
 use Rattle.std.proofs.Common.{◌≡◌, ◌≢◌, ℕ, ◌-◌, ◌<◌, ◌≤◌, Bool, true, false, if◌then◌else◌, List, [], ◌∷◌, Option, Some, nat_le, inl, inr, refl, sym, ap, ◌∙◌, subst, arith}
 use Rattle.std.specs.Prelude.{Ok, Err}
 use Rattle.std.proofs.lemmas.Bool.Decides.{nat_tests}
-use Rattle.pn_region.specs.Logged.{LoggedRegion}
+use Rattle.pn_region.specs.Log.{LoggedRegion}
 use Rattle.pn_serve.specs.declared.machine.adoption.AnnouncedText.{AnnouncedText}
 use Rattle.pn_serve.specs.declared.machine.CommandStep.{CommandStep}
 use Rattle.pn_serve.specs.declared.machine.CommandStep.TheVariants.{Obeyed, Announces}
@@ -12,14 +12,9 @@ use Rattle.pn_protocol.specs.declared.refusal.Refusal.{Refusal}
 use Rattle.pn_protocol.specs.declared.refusal.Refusal.TheVariants.{TooLong, NotJson, BadShape, ReadOnly, OutOfRange, Memory}
 use Rattle.pn_protocol.specs.Command.Lines.{command_at, is_too_long}
 use Rattle.pn_protocol.specs.Command.Meaning.{CommandValue, adopt, copy, deliver, get, lose, marks, notices, read, relayout, scan, tablets}
-use Rattle.pn_serve.specs.Machine.Announced.{unless_call, with_line}
-use Rattle.pn_serve.specs.Machine.Modes.{bytes_of, with_mode, IsAnswer}
-use Rattle.pn_serve.specs.Machine.Outcomes.{Outcome, done, line, call, round, announced, Machine, Turn, machine_over, refusal_turn, silent_turn}
-use Rattle.pn_serve.specs.Machine.Recovering.{text_adoption_turn}
-use Rattle.pn_serve.specs.Machine.Turns.{command_turn, turn_of, outcome_at, turn}
-use Rattle.pn_serve.specs.Machine.LastTurns.{last_command_turn, last_of, end_turn}
-use Rattle.pn_serve.specs.Machine.Answers.{IsReadUnless, TurnedBy, AnswersBy, ConcludesBy, Obeys}
-use Rattle.pn_serve.specs.Machine.Ways.{ComesTo, IsJoined, IsAlone, HandlesTo, LastsBy}
+use Rattle.pn_serve.specs.Machine.Turns.{unless_call, with_line, command_turn, turn_of, outcome_at, turn, last_command_turn, last_of, end_turn, IsReadUnless, TurnedBy, AnswersBy, ConcludesBy, Obeys, ComesTo, IsJoined, IsAlone, HandlesTo, LastsBy}
+use Rattle.pn_serve.specs.Machine.Outcomes.{bytes_of, with_mode, IsAnswer, Outcome, done, line, call, round, announced, Machine, Turn, machine_over, refusal_turn, silent_turn}
+use Rattle.pn_serve.specs.Machine.Doing.{text_adoption_turn}
 use Rattle.pn_protocol.specs.Reply.Texts.{reply_text, is_refusal}
 use Rattle.pn_serve.proofs.Turns.{read_whole, read_always, turned_read, turned_as, turned_always, turned_said, as_it_goes, as_said, within}
 

@@ -4,37 +4,28 @@ use Rattle.std.specs.Prelude.{Result, Ok, Err, IfSome, IsErrOf}
 use Rattle.std.specs.Io.KnownBytes.{Appends}
 use Rattle.std.proofs.KnownBytes.{Appends-nil, Appends-trans}
 use Rattle.std.proofs.lemmas.List.Elements.{All-append}
-use Rattle.pn_line.specs.LinesRead.{LinesRead, PartRead}
-use Rattle.pn_line.specs.Reads.{IsUnbroken}
+use Rattle.pn_line.specs.Text.{LinesRead, PartRead, text_of}
+use Rattle.pn_line.specs.Line.{IsUnbroken}
 use Rattle.pn_line.specs.Sent.{AppendsPrefix}
-use Rattle.pn_line.specs.Text.{text_of}
-use Rattle.pn_line.proofs.LinesReadLaws.{LinesRead-none}
+use Rattle.pn_line.proofs.TextLaws.{LinesRead-none, text_of-append}
 use Rattle.pn_line.proofs.SentLaws.{AppendsPrefix-after}
-use Rattle.pn_line.proofs.TextLaws.{text_of-append}
-use Rattle.pn_lines.specs.Ends as engine
-use Rattle.pn_lines.specs.Ends.{CanEnd, HasEnded, IsEndless, IsFull, Start, Stopped, start_at}
+use Rattle.pn_lines.specs.Driving as engine
+use Rattle.pn_lines.specs.Driving.{CanEnd, HasEnded, IsEndless, IsFull, Start, Stopped, start_at}
 use Rattle.pn_lines.specs.declared.driver.LinesFault.{LinesFault}
 use Rattle.pn_lines.specs.declared.driver.LinesFault.TheVariants as fault
 use Rattle.pn_lines.specs.declared.engine.Counts.{Counts}
 use Rattle.pn_live.specs.Readers.{LiveReaderValue}
 use Rattle.pn_protocol.specs.Reply.Texts.{reply_text}
 use Rattle.pn_protocol.specs.declared.reply.Reply.{Reply}
-use Rattle.pn_serve.specs.Control.Ends.{AnsweredAll, AnsweredSome, ControlEnds, Endless, EndsIn, uncounted}
-use Rattle.pn_serve.specs.Control.Handling.{HasClosed, controls}
-use Rattle.pn_serve.specs.Control.Lines.{ControlState, at_rest, AnswersControl, EndsControl}
-use Rattle.pn_serve.specs.Lines.Ends.{Ended}
-use Rattle.pn_serve.specs.Lines.Replies.{texts_of}
-use Rattle.pn_serve.specs.Lines.Running.{counts_of}
-use Rattle.pn_serve.specs.Lines.Served.{AllAnswer}
-use Rattle.pn_serve.specs.Lines.Stopped.{Broken, Cut}
-use Rattle.pn_serve.specs.Script.Parts.{parts_of}
-use Rattle.pn_serve.specs.Session.Knowing.{KnowsNoLess}
+use Rattle.pn_serve.specs.Control.Lines.{AnsweredAll, AnsweredSome, ControlEnds, Endless, EndsScript as EndsIn, uncounted, HasClosed, controls, ControlState, at_rest, AnswersControl, EndsControl}
+use Rattle.pn_serve.specs.Lines.{Ended, texts_of, counts_of, AllAnswer, Broken, Cut}
+use Rattle.pn_serve.specs.Script.Written.{parts_of}
+use Rattle.pn_serve.specs.Session.Resuming.{KnowsNoLess}
 use Rattle.pn_serve.specs.declared.script.Counts as runs
 use Rattle.pn_serve.specs.declared.script.RunFault.TheVariants.{Read, Write, Memory}
 use Rattle.pn_serve.specs.declared.script.TheConstants.{MAX_LINES}
 use Rattle.pn_serve.proofs.Ending.{cut_alone, ended_alone, stopped_alone}
-use Rattle.pn_serve.proofs.Parts.{parts-text}
-use Rattle.pn_serve.proofs.Serving.{OnTold, of_known}
+use Rattle.pn_serve.proofs.Serving.{parts-text, OnTold, of_known}
 
 -- ---- lines that were answered, and then more
 

@@ -8,11 +8,9 @@ use Rattle.pn_protocol.specs.declared.reply.Reply.{Reply}
 use Rattle.pn_protocol.specs.declared.reply.Reply.TheVariants.{Silent}
 use Rattle.pn_serve.specs.Control.Lines.{ControlState, at_rest, is_closed, closed_by, after_step, reply_of, Adopts, TakesLine, AnswersIn, AnswersUnless, AnswersControl, EndsIn, EndsUnless, EndsControl}
 use Rattle.pn_serve.specs.Control.Steps.{AdoptsText, StepsBy, StepsLast}
-use Rattle.pn_serve.specs.Machine.Announced.{unless_call, with_line}
-use Rattle.pn_serve.specs.Machine.Modes.{mode_of}
-use Rattle.pn_serve.specs.Machine.Outcomes.{Mode, awaits_command, announced}
-use Rattle.pn_serve.specs.Machine.Ways.{IsJoined}
-use Rattle.pn_serve.specs.Session.Knowing.{KnowsNoLess}
+use Rattle.pn_serve.specs.Machine.Turns.{unless_call, with_line, IsJoined}
+use Rattle.pn_serve.specs.Machine.Outcomes.{mode_of, Mode, awaits_command, announced}
+use Rattle.pn_serve.specs.Session.Resuming.{KnowsNoLess}
 use Rattle.pn_serve.specs.declared.control.steps.ControlStep.{ControlStep}
 use Rattle.pn_serve.specs.declared.machine.adoption.AnnouncedText.{AnnouncedText}
 use Rattle.pn_serve.specs.declared.control.steps.ControlStep.TheVariants.{Replies, Announces, Stops, Ends}

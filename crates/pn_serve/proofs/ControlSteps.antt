@@ -1,41 +1,91 @@
--- Steps of control sessions, by what the program did.
-use Rattle.std.proofs.Common.{◌≡◌, ◌≢◌, ◌⊎◌, ℕ, ◌<◌, Bool, true, false, List, length, inl, inr, refl, sym, ap, ◌∙◌, subst, arith}
-use Rattle.std.specs.Prelude.{Result, Ok, Err, Vec, IfOk, MatchResult}
+-- Steps of control sessions, by what the program did, and tablets that are counted one after another.
+use Rattle.std.proofs.Common.{◌≡◌, ℕ, suc, ◌+◌, List, [], ◌∷◌, ◌++◌, length, Option, Some, Result, Ok, Err, Vec, refl, ap, subst, arith, ◌≢◌, ◌⊎◌, ◌<◌, Bool, true, false, inl, inr, sym, ◌∙◌}
+use Rattle.std.specs.Prelude.{IfOk, MatchResult}
 use Rattle.std.specs.declared.alloc.Global.{Global}
 use Rattle.std.proofs.lemmas.Bool.{cases_lt}
 use Rattle.std.proofs.lemmas.Bool.Decides.{nat_tests}
-use Rattle.pn_join.specs.declared.memory.NoMemory.{NoMemory}
 use Rattle.pn_line.specs.Line.{kept_bytes}
 use Rattle.pn_line.proofs.LineLaws.{kept_bytes-short, length-kept_bytes_long}
+use Rattle.pn_join.specs.declared.memory.NoMemory.{NoMemory}
+use Rattle.pn_json.specs.Tokens.{line_of}
+use Rattle.pn_tablet.specs.Tablets.{TabletStateValue}
+use Rattle.pn_tablet.specs.declared.counted_cells.RecordCounts.{RecordCounts}
 use Rattle.pn_tablet.specs.Copies.{TabletCopyValue}
 use Rattle.pn_tablet.specs.CopyReading.{copy_at}
 use Rattle.pn_tablet.specs.declared.fault.CopyTextFault.{CopyTextFault}
-use Rattle.pn_tablet.specs.declared.fault.CopyTextFault.TheVariants as fault
-use Rattle.pn_json.specs.Lines.{line_of}
-use Rattle.pn_live.specs.Readers.{LiveReaderValue}
-use Rattle.pn_protocol.proofs.ControlLines.{too_long}
+use Rattle.pn_tablet.specs.declared.fault.CopyTextFault.TheVariants as copy_fault
+use Rattle.pn_scan.specs.declared.view.ScanFault.{ScanFault}
+use Rattle.pn_scan.specs.Paging.{Stays}
+use Rattle.pn_scan.specs.declared.view.ScanFault.TheVariants as fault
+use Rattle.pn_protocol.specs.declared.reply.stats.TabletStats.{TabletStats}
+use Rattle.pn_protocol.proofs.CommandLines.{control_too_long as too_long}
 use Rattle.pn_protocol.specs.Command.Controls.{ControlValue, control_at, script, notices, advance, stats, stop}
 use Rattle.pn_protocol.specs.Command.Lines.{is_too_long}
-use Rattle.pn_protocol.specs.Command.Meaning as command
-use Rattle.pn_protocol.specs.Reply.Refusals.{Refuses}
+use Rattle.pn_protocol.specs.Reply.Faults.{Refuses}
 use Rattle.pn_protocol.specs.Reply.Stats.{stats_data}
 use Rattle.pn_protocol.specs.declared.reply.stats.Stats.{Stats}
-use Rattle.pn_protocol.specs.declared.reply.stats.TabletStats.{TabletStats}
 use Rattle.pn_protocol.specs.declared.refusal.Refusal.{Refusal}
 use Rattle.pn_protocol.specs.declared.refusal.Refusal.TheVariants.{TooLong, NotJson, BadShape, ReadOnly, OutOfRange, Memory}
 use Rattle.pn_protocol.specs.declared.reply.Reply.{Reply}
 use Rattle.pn_protocol.specs.declared.reply.Reply.TheVariants.{Adopted, Changed, Copy, Lost, Page, Record, Records, Relaid, Stopping, Silent, Text, Refused, NotTaken}
 use Rattle.pn_protocol.specs.declared.reply.refusals.CommandFault.TheVariants.{CopyText}
-use Rattle.pn_scan.specs.Paging.{Stays}
+use Rattle.pn_protocol.specs.Command.Meaning as command
+use Rattle.pn_live.specs.Lookups.{IsCounted}
+use Rattle.pn_live.specs.Readers.{LiveReaderValue, Tablets}
+use Rattle.pn_serve.specs.Control.Steps.{AreCounted, CountsTablets, stats_of, AdoptsRead, DoesTask, ObeysControl, ObeysScript, RepliesWith, Says, ShowsCounts, StepsAs, StepsBy, StepsLast, task_of}
+use Rattle.pn_serve.specs.Session.Resuming.{KnowsNoLess}
+use Rattle.pn_serve.proofs.Knowing.{knows_on, knows_same, look_knows, command_knows, stays_knows}
 use Rattle.pn_serve.specs.Control.Commands.{said_by}
-use Rattle.pn_serve.specs.Control.Steps.{AdoptsRead, DoesTask, ObeysControl, ObeysScript, RepliesWith, Says, ShowsCounts, StepsAs, StepsBy, StepsLast, task_of}
-use Rattle.pn_serve.specs.Session.Knowing.{KnowsNoLess}
 use Rattle.pn_serve.specs.Session.Lines.{LooksUp}
 use Rattle.pn_serve.specs.declared.control.steps.ControlStep.{ControlStep}
 use Rattle.pn_serve.specs.declared.control.steps.ControlStep.TheVariants.{Replies, Announces, Stops, Ends}
 use Rattle.pn_serve.specs.declared.control.steps.ScriptTask.{ScriptTask}
-use Rattle.pn_serve.proofs.Knowing.{command_knows, knows_same, stays_knows}
-use Rattle.pn_serve.proofs.TabletCounts.{tablets_know}
+
+-- Tablets that are counted one after another.
+
+no_more : (n : ℕ) → n + 0 ≡ n
+no_more n = omega arith
+
+later : (n l : ℕ) → n + suc l ≡ suc n + l
+later n l = omega arith
+
+-- one tablet more
+pub one_counted : (first : ℕ) (shown : List TabletStats) (old mid new : LiveReaderValue) (counts : RecordCounts) (found : Option TabletStateValue)
+    → AreCounted old first shown mid → IsCounted mid new (Some counts) (first + length shown, found) → AreCounted old first (shown ++ stats_of counts ∷ []) new
+one_counted first [] old mid new counts found are is = (
+  new,
+  counts,
+  found,
+  subst (λ (r : LiveReaderValue). IsCounted r new (Some counts) (first, found)) are (subst (λ n. IsCounted mid new (Some counts) (n, found)) (no_more first) is),
+  refl,
+  refl,
+)
+one_counted first (s ∷ more) old mid new counts found are is = (
+  are.0,
+  are.1,
+  are.2,
+  are.3,
+  are.4,
+  one_counted (suc first) more are.0 mid new counts found are.5 (subst (λ n. IsCounted mid new (Some counts) (n, found)) (later first (length more)) is),
+)
+
+pub counted_knows : (first : ℕ) (shown : List TabletStats) (old new : LiveReaderValue) → AreCounted old first shown new → KnowsNoLess old new
+counted_knows first [] old new are = knows_same old new are
+counted_knows first (s ∷ more) old new are = knows_on old are.0 new (look_knows old are.0 (first, are.2) are.3.looked) (counted_knows (suc first) more are.0 new are.5)
+
+-- the reader knows no less
+pub tablets_know : (old new : LiveReaderValue) (answer : Result (Vec TabletStats Global) ScanFault) → CountsTablets old new answer → KnowsNoLess old new
+tablets_know old new (Ok shown) counts = counted_knows 0 shown.items old new counts.0
+tablets_know old new (Err fault.NoEntry) ends = knows_on old ends.between new (counted_knows 0 ends.before old ends.between ends.counted) (look_knows ends.between new (length ends.before, ends.found) ends.refused.looked)
+tablets_know old new (Err fault.Memory) same = knows_same old new same
+tablets_know old new (Err (fault.Recovering tablet)) never = absurd never
+tablets_know old new (Err (fault.Behind has)) never = absurd never
+
+-- the layout stays
+pub counted_layout : (first : ℕ) (shown : List TabletStats) (old new : LiveReaderValue) → AreCounted old first shown new → new.layout ≡ old.layout
+counted_layout first shown old new are = ap (λ (t : Tablets). t.layout) (counted_knows first shown old new are).tablets
+
+-- Steps of control sessions, by what the program did.
 
 -- a line that was written says so, or memory ran out
 pub says_line : (line : List ℕ) (written : Result (Vec ℕ Global) NoMemory) (shown : Reply) → IfOk written (λ text. text.items ≡ line)
@@ -54,7 +104,7 @@ pub read_copy : (text : List ℕ) (copy : TabletCopyValue) (step : ControlStep) 
 read_copy text copy step is adopts = inl (subst (λ (r : Result TabletCopyValue CopyTextFault). AdoptsRead r step) (sym is) adopts)
 
 -- or that is none
-pub read_fault : (text : List ℕ) (why : CopyTextFault) (shown : Reply) → (why ≢ fault.Memory → copy_at text ≡ Err why) → Refuses (CopyText why) shown
+pub read_fault : (text : List ℕ) (why : CopyTextFault) (shown : Reply) → (why ≢ copy_fault.Memory → copy_at text ≡ Err why) → Refuses (CopyText why) shown
     → AdoptsRead (copy_at text) (Replies shown) ⊎ (Replies shown ≡ Replies (Refused Memory))
 read_fault text why (NotTaken said) is refuses = inl (subst (λ (r : Result TabletCopyValue CopyTextFault). AdoptsRead r (Replies (NotTaken said))) (sym (is refuses.0)) refuses)
 read_fault text why (Adopted tablet) is refuses = inr (ap Replies refuses)

@@ -201,7 +201,7 @@ pub stopped : {S : Type 0} (left : S → Option (List ℕ)) (may_fail : Type 0) 
 stopped left may_fail text old later after some reads fault cuts are at has =
     at_fault may_fail text fault (λ other. stops_text left text old later after some reads fault other cuts are (at other) has)
 
--- what holds of the fault that a call handed on
-pub handed_on : {A B : Type 0} (answer : Result A B) (fault : B) (P : B → Type 0) → IsErrAnd answer (λ other. other ≡ fault) → P fault → IfErr answer P
-handed_on (Ok value) fault P is holds = tt
-handed_on (Err other) fault P is holds = subst P (sym is) holds
+-- what holds of the fault that a call passed on
+pub passed_on : {A B : Type 0} (answer : Result A B) (fault : B) (P : B → Type 0) → IsErrAnd answer (λ other. other ≡ fault) → P fault → IfErr answer P
+passed_on (Ok value) fault P is holds = tt
+passed_on (Err other) fault P is holds = subst P (sym is) holds

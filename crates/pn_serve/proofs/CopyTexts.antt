@@ -1,13 +1,98 @@
--- The texts of copies: a line more, and what ends a text.
-use Rattle.std.proofs.Common.{◌≡◌, ℕ, ◌+◌, true, false, Option, Some, List, [], ◌∷◌, ◌++◌, All, length, refl, sym, ap, ◌∙◌, subst, inl, inr, append_assoc, arith}
+-- The texts of copies: a line more, what ends a text, and what a text is read as.
+use Rattle.std.proofs.Common.{◌≡◌, ◌≢◌, ℕ, ◌≤◌, Bool, true, false, Option, Some, OnSome, List, [], ◌∷◌, ◌++◌, length, refl, sym, ap, ◌∙◌, subst, append_assoc, arith, ◌+◌, All, inl, inr, cond}
+use Rattle.std.specs.Prelude.{Ok}
 use Rattle.std.proofs.lemmas.List.Elements.{All-nil, All-cons, All-append}
+use Rattle.std.specs.Io.KnownBytes.{IsAtEnd}
 use Rattle.std.proofs.lemmas.List.{length_push}
+use Rattle.std.specs.List.{list_all}
+use Rattle.std.proofs.lemmas.Bool.{and_parts, and_from}
+use Rattle.pn_line.specs.Line.{LineBufferValue, max_line_bytes, so_far, ReadsTo, IsUnbroken, Takes}
+use Rattle.pn_line.specs.declared.reading.BoundedEnd.TheVariants.{EndOfInput, Newline, TooLong}
+use Rattle.pn_line.proofs.TextLaws.{ReadsPart, ReadsPart-from_takes, text_of-read_end, text_of-nil, text_of-push}
+use Rattle.pn_line.proofs.LineLaws.{kept_bytes-short}
 use Rattle.pn_line.specs.Text.{text_of}
-use Rattle.pn_line.proofs.TextLaws.{text_of-nil, text_of-push}
+use Rattle.pn_join.specs.Marks.{Positions, is_position, are_positions, is_name}
+use Rattle.pn_record.specs.declared.records.Image.{Image}
+use Rattle.pn_record.specs.Cells.{Entries, table_of}
 use Rattle.pn_tablet.specs.CopyReading.{copy_at}
-use Rattle.pn_serve.specs.Copies.Cutting.{AreCuts, CopyCutValue, IsCut, IsLineThat, TextLeft, line_number}
+use Rattle.pn_tablet.specs.Copies.{TabletCopyValue, IsCopy}
+use Rattle.pn_tablet.specs.CopyTexts.{AreLines}
+use Rattle.pn_tablet.specs.Layouts.{Ends, in_range}
+use Rattle.pn_tablet.specs.Tablets.{lie_in}
+use Rattle.pn_tablet.proofs.CopyGrammar.{lines_with}
+use Rattle.pn_tablet.proofs.CopyTextFacts.{text_found}
+use Rattle.pn_apply.specs.Reducing.{images_in}
+use Rattle.pn_apply.proofs.ReduceLaws.{cells_inside}
+use Rattle.pn_serve.specs.Copies.Cutting.{begins_end, AreCuts, CopyCutValue, IsCut, IsLineThat, TextLeft, line_number, Adds, AddsLine, AddsNone, AddsPart}
+use Rattle.pn_serve.specs.declared.copies.texts.AddedLine.{AddedLine}
+use Rattle.pn_serve.specs.declared.copies.texts.AddedLine.TheVariants.{End, Line}
 use Rattle.pn_serve.specs.Copies.Faulty.{IsCutAtFault, has_faulty_line}
-use Rattle.pn_serve.specs.Copies.Lines.{AddsLine, AddsNone, AddsPart}
+
+-- What a line that was read adds to the text of a copy.
+
+-- what reading a line says of known bytes
+known : (bytes : List ℕ) (line : LineBufferValue) (left leaves : Option (List ℕ)) (after : List ℕ) → left ≡ Some bytes → Takes (so_far []) line left leaves after → ReadsPart [] bytes line leaves after
+known bytes line left leaves after is takes = ReadsPart-from_takes [] bytes (All-nil (λ b. b ≢ 10)) (subst (λ (from : Option (List ℕ)). Takes (so_far []) line from leaves after) is takes)
+
+-- a line that is short is kept whole
+whole : (line : LineBufferValue) (taken : List ℕ) → line ≡ so_far taken → line.count ≤ max_line_bytes → (line.bytes ≡ taken) × (length taken ≤ max_line_bytes)
+whole line taken is short =
+    let count : line.count ≡ length taken = ap (λ (l : LineBufferValue). l.count) is in
+    let few : length taken ≤ max_line_bytes = omega (arith, count, short) in
+    (ap (λ (l : LineBufferValue). l.bytes) is ∙ kept_bytes-short taken few, few)
+
+pub adds-line : (ends more : Bool) (old new bytes : List ℕ) (line : LineBufferValue) (left leaves : Option (List ℕ)) → left ≡ Some bytes
+    → ReadsTo (Newline more) (so_far []) line left leaves → new ≡ (old ++ line.bytes) ++ 10 ∷ [] → begins_end line.bytes ≡ ends → AddsLine ends old new bytes leaves
+adds-line ends more old new bytes line left leaves is reads text_is begins =
+    let part = known bytes line left leaves (10 ∷ []) is reads.0 in
+    let all = whole line part.taken part.line reads.1 in
+    record {
+      line = part.taken;
+      rest = part.rest;
+      line_is = record { unbroken = part.unbroken; short = all.1; begins = sym (ap begins_end all.0) ∙ begins };
+      text_is = text_is ∙ ap (λ l. (old ++ l) ++ 10 ∷ []) all.0 ∙ append_assoc old part.taken (10 ∷ []);
+      bytes_are = part.text_is;
+      leaves_is = part.leaves_is;
+    }
+
+pub adds-part : (old new bytes : List ℕ) (line : LineBufferValue) (left leaves : Option (List ℕ)) → left ≡ Some bytes
+    → ReadsTo EndOfInput (so_far []) line left leaves → new ≡ old ++ line.bytes → AddsPart old new bytes leaves
+adds-part old new bytes line left leaves is reads text_is =
+    let part = known bytes line left leaves [] is reads.0 in
+    let all = whole line part.taken part.line reads.2 in
+    let at_end : IsAtEnd leaves = subst (λ (from : Option (List ℕ)). OnSome from (IsAtEnd leaves)) is reads.1 in
+    let bytes_are : bytes ≡ part.taken = text_of-read_end [] bytes leaves part at_end in
+    let none : part.rest ≡ [] = subst IsAtEnd part.leaves_is at_end in
+    record {
+      unbroken = subst IsUnbroken (sym bytes_are) part.unbroken;
+      short = subst (λ (b : List ℕ). length b ≤ max_line_bytes) (sym bytes_are) all.1;
+      text_is = text_is ∙ ap (λ l. old ++ l) (all.0 ∙ sym bytes_are);
+      leaves_is = part.leaves_is ∙ ap Some none;
+    }
+
+pub adds-none : (old new bytes : List ℕ) (line : LineBufferValue) (left leaves : Option (List ℕ)) → left ≡ Some bytes
+    → ReadsTo TooLong (so_far []) line left leaves → new ≡ old → AddsNone old new bytes leaves
+adds-none old new bytes line left leaves is reads text_is =
+    let part = known bytes line left leaves reads.0.0 is reads.0.1 in
+    let count : line.count ≡ length part.taken = ap (λ (l : LineBufferValue). l.count) part.line in
+    record {
+      long = part.taken;
+      after = reads.0.0;
+      rest = part.rest;
+      unbroken = part.unbroken;
+      is_long = omega (arith, count, reads.1);
+      text_is = text_is;
+      bytes_are = part.text_is;
+      leaves_is = part.leaves_is;
+    }
+
+-- which line was added
+pub adds-by : (old new bytes : List ℕ) (leaves : Option (List ℕ)) (begins : Bool) (added : AddedLine) → (begins ≡ true → added ≡ End) → (begins ≡ false → added ≡ Line)
+    → AddsLine begins old new bytes leaves → Adds added old new bytes leaves
+adds-by old new bytes leaves true added end inner line = subst (λ (a : AddedLine). Adds a old new bytes leaves) (sym (end refl)) line
+adds-by old new bytes leaves false added end inner line = subst (λ (a : AddedLine). Adds a old new bytes leaves) (sym (inner refl)) line
+
+-- The texts of copies: a line more, and what ends a text.
 
 -- these whole lines were read onto the text, and the rest is left
 pub record Gathered (bytes text : List ℕ) (count : ℕ) (leaves : Option (List ℕ)) : Type 0 where
@@ -159,3 +244,27 @@ pub cuts-append : (left : TextLeft) (cuts : List CopyCutValue) (between : TextLe
     → AreCuts left (cuts ++ more) later
 cuts-append left [] between more later are on = subst (λ (from : TextLeft). AreCuts from more later) (sym are) on
 cuts-append left (first ∷ cuts) between more later are on = (are.0, are.1, cuts-append are.0 cuts between more later are.2 on)
+
+-- A text that is read as a copy gives what a copy is.
+
+-- images that all lie in a range are those in it
+all_in : (range : Ends) (images : List Image) → list_all (λ (image : Image). in_range range image.key) images ≡ true → images_in range images ≡ images
+all_in range [] inside = refl
+all_in range (image ∷ images) inside =
+    let parts = and_parts (in_range range image.key) (list_all (λ (i : Image). in_range range i.key) images) inside in
+    ap (λ (b : Bool). cond b (image ∷ images_in range images) (images_in range images)) parts.0 ∙ ap (λ (rest : List Image). image ∷ rest) (all_in range images parts.1)
+
+-- the marks of lines that are read have positions
+read_marks : (form : _) (lines : List (List ℕ)) (marks : Positions) (images : List Image) (count : ℕ) → AreLines form lines (lines_with marks images count) → are_positions marks ≡ true
+read_marks form lines [] images count are = refl
+read_marks form [] (mark ∷ marks) images count are = absurd are
+read_marks form (line ∷ lines) (mark ∷ marks) images count are =
+    and_from (is_position mark.1) (are_positions marks) (and_parts (is_name mark.0) (is_position mark.1) are.0.spelled.1).1 (read_marks form lines marks images count are.1)
+
+pub read_is : (text : List ℕ) (copy : TabletCopyValue) → copy_at text ≡ Ok copy → IsCopy copy.range copy.marks copy.cells
+read_is text copy is =
+    let found = text_found text copy is in
+    let own : table_of (images_in copy.range found.images) ≡ copy.cells = ap table_of (all_in copy.range found.images found.inside) ∙ sym found.cells in record {
+      inside = subst (λ (cells : Entries). lie_in copy.range cells ≡ true) own (cells_inside copy.range found.images);
+      positions = read_marks found.form found.lines copy.marks found.images (length copy.marks + length found.images) found.lines_are;
+    }

@@ -6,9 +6,9 @@ use Rattle.std.proofs.Math.Seq.{take-append-add, take-append_seam}
 use Rattle.pn_line.specs.Line.{max_line_bytes}
 use Rattle.pn_tablet.specs.CopyReading.{copy_at}
 use Rattle.pn_serve.specs.Copies.Faulty.{EndsSoon, has_faulty_line}
-use Rattle.pn_serve.specs.Copies.Lines.{AddsLine, AddsNone, AddsPart}
-use Rattle.pn_serve.specs.declared.copies.fronts.TheConstants.{FIRST_BYTES, PART}
-use Rattle.pn_serve.proofs.CopyFronts.{faulty_still}
+use Rattle.pn_serve.specs.Copies.Cutting.{AddsLine, AddsNone, AddsPart}
+use Rattle.pn_serve.specs.declared.copies.reading.TheConstants.{FIRST_BYTES, PART}
+use Rattle.pn_serve.proofs.CopyCuts.{faulty_still}
 use Rattle.pn_serve.proofs.CopyTexts.{Gathered}
 
 -- the fronts of the text that have faulty lines are long beside what it is to have at the next look

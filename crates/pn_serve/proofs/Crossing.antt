@@ -6,7 +6,7 @@ use denote.Param.SendFields.{declared_send, variants_send}
 use denote.Struct.Record.{declared}
 use Rattle.std.proofs.Crossing.{crosses}
 use Rattle.pn_apply.proofs.Crossing.{share_send}
-use Rattle.pn_live.proofs.Crossing.Records.{cell_send, key_send, record_table_send, mark_table_send}
+use Rattle.pn_live.proofs.Crossing.{cell_send, key_send, record_table_send, mark_table_send}
 use Rattle.pn_join.specs.contracts.marks.name.Name as name
 use Rattle.pn_tablet.specs.contracts.copy.TabletCopy as copy
 use Rattle.pn_tablet.specs.contracts.copy_text.CopyText as copy_text
@@ -21,17 +21,17 @@ use Rattle.pn_serve.specs.contracts.control.answers.GivenAnswer as given
 use Rattle.pn_serve.specs.contracts.control.held_command.HeldCommand as held_command
 use Rattle.pn_serve.specs.contracts.control.mailboxes.ControlMailbox as control_mailbox
 use Rattle.pn_serve.specs.contracts.control.mailboxes.ControlMailboxes as controls
-use Rattle.pn_serve.specs.contracts.server.counter.Counter as counter
+use Rattle.pn_serve.specs.contracts.server.times.Counter as counter
 use Rattle.pn_serve.specs.contracts.server.shown_mark.ShownMark as shown_mark
 use Rattle.pn_serve.specs.contracts.server.fault_log.StreamFailure as failure
 use Rattle.pn_serve.specs.contracts.server.fault_log.FaultLog as faults
 use Rattle.pn_serve.specs.contracts.server.messages.RoundShare as messages
 use Rattle.pn_serve.specs.contracts.server.reports.Report as report
 use Rattle.pn_serve.specs.contracts.server.held_report.HeldReport as held_report
-use Rattle.pn_serve.specs.contracts.server.kept_report.KeptReport as kept_report
+use Rattle.pn_serve.specs.contracts.server.held_report.KeptReport as kept_report
 use Rattle.pn_serve.specs.contracts.server.mailboxes.Mailbox as mailbox
-use Rattle.pn_serve.specs.declared.server.texts.Sending as sending
-use Rattle.pn_serve.specs.contracts.server.reporter.Reporter as reporter
+use Rattle.pn_serve.specs.declared.server.publishers.Sending as sending
+use Rattle.pn_serve.specs.contracts.server.reports.Reporter as reporter
 
 pub name_send : IsSend name.the_row
 name_send = search (sendable, crosses) depth 40

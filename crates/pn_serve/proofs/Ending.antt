@@ -5,11 +5,10 @@ use Rattle.std.specs.Io.KnownBytes.{Appends}
 use Rattle.std.proofs.lemmas.List.Elements.{All-nil, All-cons, All-append, All-weaker}
 use Rattle.pn_line.specs.Sent.{AppendsPrefix}
 use Rattle.pn_line.specs.Text.{last_line, lines_of}
-use Rattle.pn_lines.specs.Ends as engine
-use Rattle.pn_lines.specs.Ends.{CanEnd, IsEndless, IsFull, Start, Stopped}
-use Rattle.pn_lines.specs.Handling.{Answers, Handling, by}
-use Rattle.pn_lines.specs.Replies as said
-use Rattle.pn_lines.specs.Replies.{Replied}
+use Rattle.pn_lines.specs.Driving as engine
+use Rattle.pn_lines.specs.Driving.{CanEnd, IsEndless, IsFull, Start, Stopped}
+use Rattle.pn_lines.specs.Handling.{Answers, Handling, by, Replied}
+use Rattle.pn_lines.specs.Handling as said
 use Rattle.pn_lines.specs.Standing as standing
 use Rattle.pn_lines.specs.Standing.{IsLine, count_of}
 use Rattle.pn_lines.specs.declared.driver.LinesFault.{LinesFault}
@@ -20,22 +19,13 @@ use Rattle.pn_lines.specs.declared.handler.EndedBy.TheVariants.{Newline, Input}
 use Rattle.pn_protocol.specs.Reply.Texts.{is_refusal}
 use Rattle.pn_protocol.specs.declared.reply.Reply.{Reply}
 use Rattle.pn_scan.specs.Paging.{Stays}
-use Rattle.pn_serve.specs.Lines.Ends.{Ended, EndsBy}
-use Rattle.pn_serve.specs.Lines.Handled.{Replies}
-use Rattle.pn_serve.specs.Lines.Replies.{refusals_of, texts_of}
-use Rattle.pn_serve.specs.Lines.Running.{HasRun, counts_of, run_ended}
-use Rattle.pn_serve.specs.Lines.Served.{AllAnswer, IsShort}
-use Rattle.pn_serve.specs.Lines.Stopped.{Broken, Cut, Exceeded}
-use Rattle.pn_serve.specs.Lines.Waiting.{HandsOn}
-use Rattle.pn_serve.specs.Script.Parts.{parts_of}
-use Rattle.pn_serve.specs.Script.Written.{one_if}
+use Rattle.pn_serve.specs.Lines.{Ended, EndsBy, Replies, refusals_of, texts_of, HasRun, counts_of, run_ended, AllAnswer, IsShort, Broken, Cut, Exceeded, Flushes}
+use Rattle.pn_serve.specs.Script.Written.{parts_of, one_if}
 use Rattle.pn_serve.specs.declared.script.Counts as runs
 use Rattle.pn_serve.specs.declared.script.RunFault.{RunFault}
 use Rattle.pn_serve.specs.declared.script.RunFault.TheVariants.{Read, Write, Memory}
 use Rattle.pn_serve.specs.declared.script.TheConstants.{MAX_LINES}
-use Rattle.pn_serve.proofs.Serving.{OnTold, as_many_replies, few_refusals, lines_in, parts_read}
-use Rattle.pn_serve.proofs.Stopping.{Exceeded_bytes, Exceeded_lines}
-use Rattle.pn_serve.proofs.Within.{within-all}
+use Rattle.pn_serve.proofs.Serving.{OnTold, as_many_replies, few_refusals, lines_in, parts_read, Exceeded_bytes, Exceeded_lines, within-all}
 
 same_one : (b : Bool) → said.one_if b ≡ one_if b
 same_one true = refl
@@ -210,13 +200,13 @@ run_few (Err fault.TooManyLines) few = tt
 run_few (Err fault.EndlessLine) few = tt
 run_few (Err fault.Closed) few = tt
 
-pub run_out : (handed_on : Type 0) (ended : Result Counts LinesFault) → engine.HandsOn ended handed_on → HandsOn (run_ended ended) handed_on
-run_out handed_on (Ok counts) out = out
-run_out handed_on (Err fault.Read) out = out
-run_out handed_on (Err fault.Write) out = out
-run_out handed_on (Err fault.TooManyLines) out = out
-run_out handed_on (Err fault.EndlessLine) out = out
-run_out handed_on (Err fault.Closed) out = out
+pub run_out : (flushed : Type 0) (ended : Result Counts LinesFault) → engine.Flushes ended flushed → Flushes (run_ended ended) flushed
+run_out flushed (Ok counts) out = out
+run_out flushed (Err fault.Read) out = out
+run_out flushed (Err fault.Write) out = out
+run_out flushed (Err fault.TooManyLines) out = out
+run_out flushed (Err fault.EndlessLine) out = out
+run_out flushed (Err fault.Closed) out = out
 
 -- out of memory is no end of a run
 pub run_begun : (ended : Result Counts LinesFault) → IfErr (run_ended ended) (λ found. found ≢ Memory)

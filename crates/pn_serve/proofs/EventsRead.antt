@@ -5,17 +5,14 @@ use Rattle.std.proofs.lemmas.Result.{err_from_is_err_and}
 use Rattle.std.specs.List.{All, AllByRecursion}
 use Rattle.pn_join.specs.Marks.{Positions}
 use Rattle.pn_live.specs.LiveRegions.{LiveRegionValue}
-use Rattle.pn_stream.specs.Positions.{DeliveryValue}
+use Rattle.pn_stream.specs.Brokers.{DeliveryValue}
 use Rattle.pn_serve.specs.Control.Commands.{ObeysLive, Said}
 use Rattle.pn_serve.specs.declared.control.commands.WriterCommand.{WriterCommand}
-use Rattle.pn_serve.specs.Server.Events.{AllDone, BringAll, Brings, IsCommand, IsEnd, ReadsBesides, RunsCommands, RunsEvents, RunsOn, RunsUpTo, ToldAll, WriterEvent, gathered, tried, taken, told}
-use Rattle.pn_serve.specs.Server.Reading.{AreOfStreams, IsOfStreams, ReadToEnds, ReadUpTo, RunsRounds}
-use Rattle.pn_serve.specs.Server.Gathering.{value_of}
-use Rattle.pn_serve.specs.Server.Rounds.{RoundInputValue, IsRoundTried, TakesInput}
-use Rattle.pn_serve.specs.Server.Tries.{IsNextInput, RunsInput, StopsAt, TakesRound, Waits, waiting_value}
+use Rattle.pn_serve.specs.Server.Events.{AllDone, BringAll, Brings, IsCommand, IsEnd, ReadsBesides, RunsCommands, RunsEvents, RunsOn, RunsUpTo, ToldAll, WriterEvent, gathered, tried, taken, told, AreOfStreams, IsOfStreams, ReadToEnds, ReadUpTo, RunsRounds}
+use Rattle.pn_serve.specs.Server.Rounds.{value_of, RoundInputValue, IsRoundTried, TakesInput, IsNextInput, RunsInput, StopsAt, TakesRound, Waits, waiting_value}
 use Rattle.pn_serve.specs.declared.server.events.ReadingEnd.{ReadingEnd}
-use Rattle.pn_serve.specs.declared.server.fault.ServeFault.{ServeFault}
-use Rattle.pn_serve.specs.declared.server.fault.ServeFault.TheVariants.{Start, Stream, Round, Close, Write}
+use Rattle.pn_serve.specs.declared.server.fault_log.ServeFault.{ServeFault}
+use Rattle.pn_serve.specs.declared.server.fault_log.ServeFault.TheVariants.{Start, Stream, Round, Close, Write}
 use Rattle.pn_serve.specs.declared.server.mailboxes.AtFault.{AtFault}
 use Rattle.pn_serve.specs.declared.server.mailboxes.AtFault.TheVariants.{GoOn}
 use Rattle.pn_serve.specs.declared.server.rounds.RoundInput.{RoundInput}

@@ -1,17 +1,57 @@
--- What mailboxes give, one after another.
-use Rattle.std.proofs.Common.{◌≡◌, ℕ, Bool, true, false, if◌then◌else◌, List, [], ◌∷◌, ◌++◌, map, Option, None, Some, IfSome, inl, inr, refl, sym, ap, ◌∙◌, subst, append-nil}
-use Rattle.std.specs.List.{All, Contains}
-use Rattle.std.proofs.lemmas.List.Elements.{All-append, All-nil, All-push, Contains-append_cases, Contains-append_right, Contains-append_left, Contains-push}
-use Rattle.pn_join.specs.Marks.{Positions}
-use Rattle.pn_region.specs.Marking.{leaves_gap}
-use Rattle.pn_serve.specs.Server.Gathering.{Note, IsInputOf, IsOwn, first_fault, goes_on, no_input, still_read, with_report, with_notes}
-use Rattle.pn_serve.specs.Server.Reports.{is_fault, messages_of}
-use Rattle.pn_serve.specs.Server.Sent.{IsSent}
-use Rattle.pn_serve.specs.Server.SentReports.{IsSentReport}
-use Rattle.pn_serve.specs.Server.Rounds.{RoundInputValue}
+-- What streams and their mailboxes give, one after another, and faults that are passed on.
+use Rattle.std.proofs.Common.{List, [], ◌∷◌, ◌++◌, map, ◌≡◌, refl, sym, ap, subst, IfErr, true, false, ◌≤◌, Option, ℕ, ◌∙◌, Bool, if◌then◌else◌, None, Some, IfSome, inl, inr, append-nil}
+use Rattle.std.specs.Prelude.{Result, IsErrAnd, Ok, Err, IsErr, IfOk, OnOk, OnErr, MatchResult}
+use Rattle.std.proofs.lemmas.Result.{err_from_is_err_and}
+use Rattle.std.specs.List.{Contains, All}
+use Rattle.std.proofs.lemmas.List.Elements.{Contains-append_right, Contains-append_left, Contains-push, All-append, All-nil, All-push, Contains-append_cases}
+use Rattle.pn_join.specs.Marks.{Positions, position_of}
+use Rattle.pn_stream.specs.Batches.{Stream}
+use Rattle.pn_region.specs.Rounds.{leaves_gap}
+use Rattle.pn_serve.specs.declared.server.fault_log.ServeFault.{ServeFault}
+use Rattle.pn_serve.specs.Server.Reports.{names_of, is_fault, messages_of}
+use Rattle.pn_serve.specs.Server.Publishers.{EndsStream, IsTakenWhole, IsSent, IsSentReport}
+use Rattle.pn_serve.specs.declared.server.fault_log.ServeFault.TheVariants.{Stream as of_stream}
+use Rattle.pn_serve.specs.declared.server.reporting.StreamEnd.{StreamEnd}
+use Rattle.pn_serve.specs.Server.Rounds.{Note, IsInputOf, IsOwn, first_fault, goes_on, no_input, still_read, with_report, with_notes, RoundInputValue}
 use Rattle.pn_serve.specs.declared.server.reports.Report.{Report}
 use Rattle.pn_serve.specs.declared.server.reports.Report.TheVariants.{Messages, End, Fault}
-use Rattle.pn_serve.proofs.Passing.{map_push}
+
+-- Lists that grow, and faults that are passed on.
+
+pub map_push : {A B : Type 0} (f : A → B) (xs : List A) (x : A) → map f (xs ++ x ∷ []) ≡ map f xs ++ f x ∷ []
+map_push f [] x = refl
+map_push f (y ∷ xs) x = ap (λ l. f y ∷ l) (map_push f xs x)
+
+-- what holds of a fault that is passed on
+pub passed_on : {T : Type 0} (P : ServeFault → Type 0) (fault : ServeFault) (result : Result T ServeFault) → IsErrAnd result (λ other. other ≡ fault) → P fault → IfErr result P
+passed_on {T} P fault result answered holds =
+    let (other, is, same) = err_from_is_err_and result answered in
+    subst (λ (r : Result T ServeFault). IfErr r P) (sym is) (subst P (sym same) holds)
+
+-- Streams of threads, and what is answered of them.
+
+-- the stream of a thread was taken to its end
+pub taken_by : {S : Type 0} (left : S → Option (List ℕ)) (marks : Positions) (stream : Stream S) (ended : Result StreamEnd (List ℕ)) (result : Result (Unit {0}) ServeFault) → EndsStream left stream ended
+    → OnOk result (IfOk ended (λ end. end.last ≤ position_of marks end.name)) → OnErr ended (IsErr result) → OnOk result (IsTakenWhole left marks stream)
+taken_by left marks stream ended (Err fault) ends reached whole = tt
+taken_by left marks stream (Err name) (Ok done) ends reached whole = let no : false ≡ true = whole in absurd (cc)
+taken_by left marks stream (Ok end) (Ok done) ends reached whole = record { last = end.last; whole = ends.1; reached = subst (λ (name : List ℕ). end.last ≤ position_of marks name) ends.0 reached }
+
+-- a thread's fault names its stream
+pub named_by : {S : Type 0} (left : S → Option (List ℕ)) (stream : Stream S) (ended : Result StreamEnd (List ℕ)) (fault : ServeFault) → EndsStream left stream ended
+    → MatchResult ended (λ end. fault ≡ of_stream end.name) (λ name. fault ≡ of_stream name) → fault ≡ of_stream stream.name
+named_by left stream (Ok end) fault ends is = is ∙ ap of_stream ends.0
+named_by left stream (Err name) fault ends is = is ∙ ap of_stream ends
+
+-- a thread's stream is one of the streams
+pub is_one : {S T : Type 0} (stream_of : T → Stream S) (threads yielded rest : List T) (thread : T) → yielded ++ thread ∷ rest ≡ threads → Contains (names_of (map stream_of threads)) (stream_of thread).name
+is_one {S} {T} stream_of threads yielded rest thread is = subst (λ (ts : List T). Contains (names_of (map stream_of ts)) (stream_of thread).name) is (there yielded)
+  where
+    there : (ts : List T) → Contains (names_of (map stream_of (ts ++ thread ∷ rest))) (stream_of thread).name
+    there [] = Contains-append_left ((stream_of thread).name ∷ []) (names_of (map stream_of rest)) (stream_of thread).name (Contains-push [] (stream_of thread).name)
+    there (t ∷ ts) = Contains-append_right ((stream_of t).name ∷ []) (names_of (map stream_of (ts ++ thread ∷ rest))) (stream_of thread).name (there ts)
+
+-- What mailboxes give, one after another.
 
 -- one more note
 pub notes_push : (marks : Positions) (input : RoundInputValue) (notes : List Note) (note : Note) → with_notes marks input (notes ++ note ∷ []) ≡ with_report marks (with_notes marks input notes) note.name note.report
@@ -35,12 +75,12 @@ asked_none marks input left none nobody = record { notes = []; of_streams = refl
 
 asked_more : (names : List (List ℕ)) (marks : Positions) (input : RoundInputValue) (left still : List (List ℕ)) (note : Note) → IsInputOf names marks input left → IsOwn note
     → still ≡ left ++ (if goes_on marks note.report then note.name ∷ [] else []) → IsInputOf (names ++ note.name ∷ []) marks (with_report marks input note.name note.report) still
-asked_more names marks input left still note is own going = record {
+asked_more names marks input left still note is own pending = record {
   notes = is.notes ++ note ∷ [];
   of_streams = map_push (λ (n : Note). n.name) is.notes note ∙ ap (λ (ns : List (List ℕ)). ns ++ note.name ∷ []) is.of_streams;
   own = All-push IsOwn is.notes note is.own own;
   together = ap (λ (v : RoundInputValue). with_report marks v note.name note.report) is.together ∙ sym (notes_push marks no_input is.notes note);
-  going_on = going ∙ ap (λ (ns : List (List ℕ)). ns ++ (if goes_on marks note.report then note.name ∷ [] else [])) is.going_on ∙ sym (read_push marks is.notes note);
+  going_on = pending ∙ ap (λ (ns : List (List ℕ)). ns ++ (if goes_on marks note.report then note.name ∷ [] else [])) is.going_on ∙ sym (read_push marks is.notes note);
 }
 
 -- one more stream was asked, and goes on
@@ -85,19 +125,19 @@ named_on : (names : List (List ℕ)) (marks : Positions) (input : RoundInputValu
 named_on names marks input name None there known = known
 named_on names marks input name (Some report) there known = named_first names input.fault name (is_fault marks report) there known
 
-named_by : (names : List (List ℕ)) (marks : Positions) (notes : List Note) (input : RoundInputValue) → ((name : List ℕ) → Contains (map (λ (note : Note). note.name) notes) name → Contains names name)
+known_by : (names : List (List ℕ)) (marks : Positions) (notes : List Note) (input : RoundInputValue) → ((name : List ℕ) → Contains (map (λ (note : Note). note.name) notes) name → Contains names name)
     → IfSome input.fault (Contains names) → IfSome (with_notes marks input notes).fault (Contains names)
-named_by names marks [] input among known = known
-named_by names marks (note ∷ notes) input among known =
+known_by names marks [] input among known = known
+known_by names marks (note ∷ notes) input among known =
     let others = map (λ (n : Note). n.name) notes in
-    named_by names marks notes (with_report marks input note.name note.report) (λ name there. among name (Contains-append_right (note.name ∷ []) others name there))
+    known_by names marks notes (with_report marks input note.name note.report) (λ name there. among name (Contains-append_right (note.name ∷ []) others name there))
     (named_on names marks input note.name note.report (among note.name (Contains-append_left (note.name ∷ []) others note.name (Contains-push [] note.name))) known)
 
 -- a fault is of one of the streams that were asked
 pub fault_named : (names : List (List ℕ)) (marks : Positions) (input : RoundInputValue) (left : List (List ℕ)) → IsInputOf names marks input left → IfSome input.fault (Contains names)
 fault_named names marks input left is =
     subst (λ (v : RoundInputValue). IfSome v.fault (Contains names)) (sym is.together)
-    (named_by names marks is.notes no_input (λ name there. subst (λ (ns : List (List ℕ)). Contains ns name) is.of_streams there) tt)
+    (known_by names marks is.notes no_input (λ name there. subst (λ (ns : List (List ℕ)). Contains ns name) is.of_streams there) tt)
 
 -- the messages of a report that goes on were sent
 sent_of : (known : Type 0) (sends : List ℕ → List ℕ → Type 0) (marks : Positions) (report : Report) → IsSentReport known sends report → All (IsSent known sends) (messages_of marks report)

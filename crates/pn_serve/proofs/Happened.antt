@@ -2,9 +2,8 @@
 use Rattle.std.proofs.Common.{◌≡◌, ℕ, ◌+◌, ◌-◌, nat_le, Bool, true, false, if◌then◌else◌, List, [], ◌∷◌, ◌++◌, length, refl, sym, ap, subst}
 use Rattle.std.specs.Prelude.{Result, Ok, Err, Option, Some, None, slice_get}
 use Rattle.pn_join.specs.Marks.{Positions}
-use Rattle.pn_stream.specs.Positions.{DeliveryValue}
-use Rattle.pn_tablet.specs.Copies.{TabletCopyValue, IsCopy}
-use Rattle.pn_tablet.specs.Copying.{copy_of}
+use Rattle.pn_stream.specs.Brokers.{DeliveryValue}
+use Rattle.pn_tablet.specs.Copies.{TabletCopyValue, IsCopy, copy_of}
 use Rattle.pn_tablet.specs.CopyReading.{copy_at}
 use Rattle.pn_tablet.specs.Layouts.{Bounds, IsLayout, layout_of}
 use Rattle.pn_tablet.specs.Tablets.{TabletStateValue}
@@ -13,35 +12,26 @@ use Rattle.pn_tablet.specs.declared.fault.CopyFault.{CopyFault}
 use Rattle.pn_tablet.specs.declared.layout.LayoutFault.{LayoutFault}
 use Rattle.pn_region.specs.Events as events
 use Rattle.pn_region.specs.Events.{RegionEvent, LeadsTo, AllLeadTo}
-use Rattle.pn_region.specs.Logged.{LoggedRegion, with_break}
-use Rattle.pn_region.specs.Marking.{new_marks}
-use Rattle.pn_region.specs.Recovery.{after_loss, after_adoption}
+use Rattle.pn_region.specs.Log.{LoggedRegion, with_break}
+use Rattle.pn_region.specs.Rounds.{new_marks, IsHalfTaken, round as taken_round}
+use Rattle.pn_region.specs.Recovery.{after_loss, after_adoption, after_relayout}
 use Rattle.pn_region.specs.Regions.{RegionValue, IsRegion}
-use Rattle.pn_region.specs.Relayouts.{after_relayout}
-use Rattle.pn_region.specs.Rounds.{IsHalfTaken, round as taken_round}
 use Rattle.pn_tablet.specs.declared.fault.OpFault.{OpFault as AdoptFault}
 use Rattle.pn_region.specs.declared.fault.RelayoutFault.{RelayoutFault}
 use Rattle.pn_region.specs.declared.fault.RoundFault.{RoundFault}
 use Rattle.pn_region.proofs.EventSteps.{events_are}
-use Rattle.pn_json.specs.Lines.{line_of}
+use Rattle.pn_json.specs.Tokens.{line_of}
 use Rattle.pn_protocol.specs.declared.refusal.Refusal.{Refusal}
 use Rattle.pn_protocol.specs.Command.Meaning.{CommandValue, adopt, copy, deliver, get, lose, marks, notices, read, relayout, scan, tablets}
 use Rattle.pn_protocol.specs.Command.Lines.{command_at}
-use Rattle.pn_serve.specs.Machine.Announced.{unless_call, with_line}
-use Rattle.pn_serve.specs.Machine.Doing.{delivery_turn}
+use Rattle.pn_serve.specs.Machine.Turns.{unless_call, with_line, after_part_with_marks, last_of, end_in, end_turn, turn_of, outcome_at, turn_in, turn}
+use Rattle.pn_serve.specs.Machine.Doing.{delivery_turn, at_tablet, copy_reply_turn, copy_turn, loss_turn, adoption_turn, read_adoption_turn, text_adoption_turn, relaid_turn, relayout_turn}
 use Rattle.pn_serve.specs.Machine.Outcomes.{Outcome, done, line, call, round, Mode, awaits_command, announced, Machine, Turn, logged_region, silent_turn}
-use Rattle.pn_serve.specs.Machine.PartRounds.{after_part_with_marks}
-use Rattle.pn_serve.specs.Machine.Recovering.{at_tablet, copy_reply_turn, copy_turn, loss_turn, adoption_turn, read_adoption_turn, text_adoption_turn}
-use Rattle.pn_serve.specs.Machine.Relaying.{relaid_turn, relayout_turn}
-use Rattle.pn_serve.specs.Machine.LastTurns.{last_of, end_in, end_turn}
-use Rattle.pn_serve.specs.Machine.Turns.{turn_of, outcome_at, turn_in, turn}
 use Rattle.pn_protocol.specs.Reply.Short.{lost_data}
-use Rattle.pn_serve.specs.Script.Events.{unless_refused, some_tablet, half_round_events, events_by, events_by_copy, events_by_text, events_in, events_from}
-use Rattle.pn_serve.specs.Script.Happened.{events_of_last, events_of_end, events_at_end, events_since}
-use Rattle.pn_serve.specs.Script.Inputs.{InputEnd, Input, machine_at_end, after_input}
-use Rattle.pn_serve.specs.Script.Written.{first_outcome, later_outcomes, machine_after}
+use Rattle.pn_serve.specs.Script.Events.{unless_refused, some_tablet, half_round_events, events_by, events_by_copy, events_by_text, events_in, events_from, events_of_last, events_of_end, events_at_end, events_since}
+use Rattle.pn_serve.specs.Script.Written.{InputEnd, Input, machine_at_end, after_input, first_outcome, later_outcomes, machine_after}
 use Rattle.pn_serve.proofs.PartRounds.{partly_is, partly_none}
-use Rattle.pn_serve.proofs.ReadCopies.{read_is}
+use Rattle.pn_serve.proofs.CopyTexts.{read_is}
 use Rattle.pn_serve.proofs.Relaying.{lawful_bounds}
 
 -- no event leads nowhere, and one event to what it leads to

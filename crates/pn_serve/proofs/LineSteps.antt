@@ -4,9 +4,8 @@ use Rattle.std.specs.Prelude.{Result, Ok, Err, Option, Some, None, slice_get}
 use Rattle.std.specs.List.{AllByRecursion, list_any}
 use Rattle.std.specs.Result.{result_map_both}
 use Rattle.pn_join.specs.Marks.{Positions}
-use Rattle.pn_stream.specs.Positions.{DeliveryValue}
-use Rattle.pn_tablet.specs.Copies.{TabletCopyValue}
-use Rattle.pn_tablet.specs.Copying.{copy_of}
+use Rattle.pn_stream.specs.Brokers.{DeliveryValue}
+use Rattle.pn_tablet.specs.Copies.{TabletCopyValue, copy_of}
 use Rattle.pn_tablet.specs.CopyReading.{copy_at}
 use Rattle.pn_tablet.specs.Layouts.{Bounds, layout_of}
 use Rattle.pn_tablet.specs.Tablets.{TabletStateValue}
@@ -17,29 +16,23 @@ use Rattle.pn_tablet.specs.declared.fault.Shortfall.{Shortfall}
 use Rattle.pn_tablet.specs.declared.state.TabletOp.TheVariants.{Adopt}
 use Rattle.pn_region.specs.Events as events
 use Rattle.pn_region.specs.Events.{RegionEvent}
-use Rattle.pn_region.specs.Logged.{with_break}
-use Rattle.pn_region.specs.Marking.{new_marks}
-use Rattle.pn_region.specs.Recovery.{after_loss, after_op, tablet_for, lacks, after_adoption_unless, after_adoption_by}
+use Rattle.pn_region.specs.Log.{with_break}
+use Rattle.pn_region.specs.Rounds.{new_marks, after_joins}
+use Rattle.pn_region.specs.Recovery.{after_loss, after_op, tablet_for, lacks, after_adoption_unless, after_adoption_by, first_recovering, with_layout_unless, with_layout}
 use Rattle.pn_region.specs.Regions.{RegionValue}
-use Rattle.pn_region.specs.Relayouts.{first_recovering, with_layout_unless, with_layout}
-use Rattle.pn_region.specs.Rounds.{after_joins}
 use Rattle.pn_region.specs.declared.fault.RoundFault.{RoundFault}
-use Rattle.pn_json.specs.Lines.{line_of}
+use Rattle.pn_json.specs.Tokens.{line_of}
 use Rattle.pn_protocol.specs.declared.refusal.Refusal.{Refusal}
 use Rattle.pn_protocol.specs.Command.Lines.{command_at}
 use Rattle.pn_protocol.specs.Command.Meaning.{CommandValue, adopt, copy, deliver, get, lose, marks, notices, read, relayout, scan, tablets}
 use Rattle.pn_protocol.specs.Reply.Short.{lost_data}
-use Rattle.pn_serve.specs.Machine.Announced.{unless_call, with_line}
-use Rattle.pn_serve.specs.Machine.Doing.{delivery_turn}
+use Rattle.pn_serve.specs.Machine.Turns.{unless_call, with_line, after_part_with_marks, turn_of, outcome_at, turn_in, turn}
+use Rattle.pn_serve.specs.Machine.Doing.{delivery_turn, at_tablet, copy_reply_turn, copy_turn, loss_turn, adoption_turn, read_adoption_turn, text_adoption_turn, relaid_turn, relayout_turn}
 use Rattle.pn_serve.specs.Machine.Outcomes.{Outcome, done, line, call, round, Mode, awaits_command, announced, Machine, Turn, logged_region, silent_turn}
-use Rattle.pn_serve.specs.Machine.PartRounds.{after_part_with_marks}
-use Rattle.pn_serve.specs.Machine.Recovering.{at_tablet, copy_reply_turn, copy_turn, loss_turn, adoption_turn, read_adoption_turn, text_adoption_turn}
-use Rattle.pn_serve.specs.Machine.Relaying.{relaid_turn, relayout_turn}
-use Rattle.pn_serve.specs.Machine.Turns.{turn_of, outcome_at, turn_in, turn}
 use Rattle.pn_serve.specs.Script.Events.{unless_refused, some_tablet, half_round_events, events_by, events_by_copy, events_by_text, events_in}
 use Rattle.pn_serve.proofs.Relaying.{lawful_bounds}
-use Rattle.pn_serve.proofs.TabletFaces.{same_count, same_place, lack_at, BothThere, both_at, same_recovering}
-pub use Rattle.pn_serve.proofs.TabletFaces.{SameFace, SameFaces}
+use Rattle.pn_serve.proofs.PartRounds.{same_count, same_place, lack_at, BothThere, both_at, same_recovering}
+pub use Rattle.pn_serve.proofs.PartRounds.{SameFace, SameFaces}
 
 -- ---- a relation of regions that events carry on, if they are of a kind
 

@@ -1,25 +1,19 @@
--- Replies to lookups of a session.
-use Rattle.std.proofs.Common.{◌≡◌, ◌≢◌, ◌⊎◌, ◌<◌, ℕ, Bool, true, false, List, [], ◌∷◌, length, inl, inr, refl, sym, ap, ◌∙◌, subst, arith}
-use Rattle.std.specs.Prelude.{◌==◌, MatchBool, Option, Result, Ok, Err}
+-- Replies to lookups of a session, and what their texts give of themselves in a piece.
+use Rattle.std.proofs.Common.{◌≡◌, ◌≤◌, ℕ, true, false, List, [], ◌∷◌, ◌++◌, length, refl, sym, ap, arith, append-nil, length-append, ◌≢◌, ◌⊎◌, ◌<◌, Bool, inl, inr, ◌∙◌, subst}
+use Rattle.std.specs.Prelude.{Vec, vec_capacity, ◌==◌, MatchBool, Option, Result, Ok, Err}
+use Rattle.std.specs.declared.alloc.Global.{Global}
 use Rattle.std.proofs.lemmas.Bool.{cases_lt}
 use Rattle.std.proofs.lemmas.Bool.Decides.{nat_tests}
 use Rattle.serde_json.specs.Data.{Data}
 use Rattle.pn_line.specs.Line.{kept_bytes}
 use Rattle.pn_line.proofs.LineLaws.{kept_bytes-nil, kept_bytes-short, length-kept_bytes_long}
-use Rattle.pn_lines.specs.Answers.{AnswersBy}
-use Rattle.pn_lines.specs.declared.handler.EndedBy.{EndedBy}
-use Rattle.pn_lines.specs.declared.handler.EndedBy.TheVariants.{Newline, Input}
 use Rattle.pn_record.specs.Sets.{CellValue}
 use Rattle.pn_tablet.specs.Layouts.{Bounds}
-use Rattle.pn_scan.specs.Candidates.{Look}
-use Rattle.pn_scan.specs.Pages.{PageValue, first_page}
+use Rattle.pn_scan.specs.Pages.{Look, PageValue, first_page}
 use Rattle.pn_scan.specs.Queries.{QueryValue}
-use Rattle.pn_scan.specs.Reads.{IsGet}
+use Rattle.pn_scan.specs.Views.{IsGet, Looks, IsScan}
 use Rattle.pn_scan.specs.Paging.{Gaps, IsPreorder, LookMade, LooksAfter, Moving, Stays}
-use Rattle.pn_scan.specs.Views.{Looks}
-use Rattle.pn_scan.specs.Visits.{IsScan}
-use Rattle.pn_scan.specs.declared.fault.ScanFault.{ScanFault}
-use Rattle.pn_live.specs.Readers.{LiveReaderValue, LooksLive}
+use Rattle.pn_scan.specs.declared.view.ScanFault.{ScanFault}
 use Rattle.pn_protocol.specs.declared.refusal.Refusal.{Refusal}
 use Rattle.pn_protocol.specs.declared.refusal.Refusal.TheVariants.{TooLong, NotJson, BadShape, ReadOnly, OutOfRange, Memory}
 use Rattle.pn_protocol.specs.declared.reply.Reply.{Reply}
@@ -27,17 +21,44 @@ use Rattle.pn_protocol.specs.declared.reply.Reply.TheVariants.{Silent, Refused}
 use Rattle.pn_protocol.proofs.CommandLines.{too_long}
 use Rattle.pn_protocol.specs.Command.Lines.{is_too_long, lookup_at}
 use Rattle.pn_protocol.specs.Command.Meaning.{CommandValue, adopt, copy, deliver, get, lose, marks, notices, read, relayout, scan, tablets}
-use Rattle.pn_protocol.specs.Reply.Answers.{ShowsFound}
-use Rattle.pn_serve.specs.declared.machine.line_answers.Answer.{Answer}
-use Rattle.pn_serve.specs.declared.machine.line_answers.Answer.TheVariants.{Done, Going as Begun}
-use Rattle.pn_serve.specs.declared.sessions.going.Going.{Going}
-use Rattle.pn_serve.specs.declared.sessions.going.Going.TheVariants.{Page, Keys, Copy}
-use Rattle.pn_serve.specs.Lines.Going.{AnswersWith}
-use Rattle.pn_serve.specs.Lines.Handled.{Replies, by_end, given_by, replied_of}
-use Rattle.pn_serve.specs.Session.Handling.{reads_by, reads_lines}
+use Rattle.pn_protocol.specs.Reply.Texts.{ShowsFound}
+use Rattle.pn_lines.specs.Giving.{Gives}
+use Rattle.pn_lines.specs.Answers.{AnswersBy}
+use Rattle.pn_lines.specs.declared.handler.EndedBy.{EndedBy}
+use Rattle.pn_lines.specs.declared.handler.EndedBy.TheVariants.{Newline, Input}
+use Rattle.pn_live.specs.Readers.{LiveReaderValue, LooksLive}
+use Rattle.pn_serve.specs.declared.machine.line_answers.LineOutcome.{LineOutcome}
+use Rattle.pn_serve.specs.declared.machine.line_answers.LineOutcome.TheVariants.{Done, Pending as Begun}
+use Rattle.pn_serve.specs.declared.sessions.pending_lookup.PendingLookup.{PendingLookup}
+use Rattle.pn_serve.specs.declared.sessions.pending_lookup.PendingLookup.TheVariants.{Page, Keys, Copy}
+use Rattle.pn_serve.specs.Session.Resuming.{AnswersWith, reads_by, reads_lines, LooksFor, LooksForLast, LooksOn, LooksTo}
+use Rattle.pn_serve.specs.Lines.{Replies, by_end, given_by, replied_of}
 use Rattle.pn_serve.proofs.SessionsGivenUp.{given_up}
-use Rattle.pn_serve.specs.Session.Looking.{LooksFor, LooksForLast, LooksOn, LooksTo}
 use Rattle.pn_serve.specs.Session.Lines.{Tells, LooksUp, AnswersLine, EndsLines, RefusesLine}
+
+-- What a reply's text gives of itself in a piece.
+
+-- of two ends of a text the shorter is the end of the longer
+split_at : (front now back was : List ℕ) → front ++ now ≡ back ++ was → length now ≤ length was → (given : List ℕ) × (front ≡ back ++ given) × (was ≡ given ++ now)
+split_at front now [] was same few = (front, refl, sym same)
+split_at [] now (b ∷ back) was same few = absurd (omega (arith, few, ap length same, length-append back was))
+split_at (a ∷ front) now (b ∷ back) was same few =
+    let first : a ≡ b = cc in
+    let later : front ++ now ≡ back ++ was = cc in
+    let (given, is, split) = split_at front now back was later few in
+    (given, (λ i. first i ∷ is i), split)
+
+pub gives_piece : (was now : List ℕ) (old new : Vec ℕ Global) → new.items ++ now ≡ old.items ++ was → length now ≤ length was → vec_capacity old ≤ vec_capacity new → Gives was now old new
+gives_piece was now old new whole few capacity =
+    let (given, is, split) = split_at new.items now old.items was whole few in record { given = given; items = is; split = split; capacity = capacity }
+
+pub gives_none : (text : List ℕ) (out : Vec ℕ Global) → Gives text text out out
+gives_none text out = record { given = []; items = sym (append-nil out.items); split = refl; capacity = omega arith }
+
+pub true_false : true ≡ false → ⊥
+true_false is = cc
+
+-- Replies to lookups of a session.
 
 -- what was found, as it is shown
 abbrev pub seen_as : {A B : Type 0} → (A → B) → Result A ScanFault → Result B ScanFault
@@ -116,7 +137,7 @@ module _ (moves : Moving LiveReaderValue) (pre : IsPreorder moves) where
   said_too old new (Ok command) reply tells = up_too old new command reply tells
   said_too old new (Err refusal) reply tells = tells
 
-  on_too : (old new : LiveReaderValue) (command : CommandValue) (going : Going) → LooksOn Stays old command new going → LooksOn moves old command new going
+  on_too : (old new : LiveReaderValue) (command : CommandValue) (pending : PendingLookup) → LooksOn Stays old command new pending → LooksOn moves old command new pending
   on_too old new (scan query) (Page asked walk) on = (on.0, (on.1.0, on.1.1, gaps_too old new on.1.0 on.1.2))
   on_too old new (scan query) (Keys walk) on = absurd on
   on_too old new (scan query) (Copy count) on = absurd on
@@ -126,28 +147,28 @@ module _ (moves : Moving LiveReaderValue) (pre : IsPreorder moves) where
   on_too old new (copy need tablet) (Page asked walk) on = absurd on
   on_too old new (copy need tablet) (Keys walk) on = absurd on
   on_too old new (copy need tablet) (Copy count) on = record { within = on.within; found = on.found; reached = on.reached; copied = on.copied; moved = moves_too on.reached new on.moved }
-  on_too old new (read key wanted) going on = absurd on
-  on_too old new (adopt lines) going on = absurd on
-  on_too old new (deliver deliveries) going on = absurd on
-  on_too old new (lose tablet) going on = absurd on
-  on_too old new marks going on = absurd on
-  on_too old new (notices since) going on = absurd on
-  on_too old new (relayout bounds) going on = absurd on
-  on_too old new tablets going on = absurd on
+  on_too old new (read key wanted) pending on = absurd on
+  on_too old new (adopt lines) pending on = absurd on
+  on_too old new (deliver deliveries) pending on = absurd on
+  on_too old new (lose tablet) pending on = absurd on
+  on_too old new marks pending on = absurd on
+  on_too old new (notices since) pending on = absurd on
+  on_too old new (relayout bounds) pending on = absurd on
+  on_too old new tablets pending on = absurd on
 
   -- a line that was answered, or begun, by a reader that is alone
-  pub answers_too : (old new : LiveReaderValue) (line : List ℕ) (answer : Answer) → AnswersWith (AnswersLine Stays) (LooksFor Stays) old line new answer → AnswersWith (AnswersLine moves) (LooksFor moves) old line new answer
+  pub answers_too : (old new : LiveReaderValue) (line : List ℕ) (answer : LineOutcome) → AnswersWith (AnswersLine Stays) (LooksFor Stays) old line new answer → AnswersWith (AnswersLine moves) (LooksFor moves) old line new answer
   answers_too old new line (Done reply) (inl tells) = inl (said_too old new (lookup_at line) reply tells)
   answers_too old new line (Done reply) (inr short) = inr short
-  answers_too old new line (Begun going) begun = record { command = begun.command; reads = begun.reads; so_far = on_too old new begun.command going begun.so_far }
+  answers_too old new line (Begun pending) begun = record { command = begun.command; reads = begun.reads; so_far = on_too old new begun.command pending begun.so_far }
 
 -- ---- lines
 
 module _ (moves : Moving LiveReaderValue) where
   -- the line says this command
-  pub answers_said : (old new : LiveReaderValue) (line : List ℕ) (command : CommandValue) (answer : Answer) → lookup_at line ≡ Ok command → LooksTo moves old command new answer → AnswersWith (AnswersLine moves) (LooksFor moves) old line new answer
+  pub answers_said : (old new : LiveReaderValue) (line : List ℕ) (command : CommandValue) (answer : LineOutcome) → lookup_at line ≡ Ok command → LooksTo moves old command new answer → AnswersWith (AnswersLine moves) (LooksFor moves) old line new answer
   answers_said old new line command (Done reply) said answered = inl (subst (λ (r : Result CommandValue Refusal). Tells moves old r new reply) (sym said) answered)
-  answers_said old new line command (Begun going) said begun = record { command = command; reads = said; so_far = begun }
+  answers_said old new line command (Begun pending) said begun = record { command = command; reads = said; so_far = begun }
 
   answers_fault : (old : LiveReaderValue) (line : List ℕ) (refusal : Refusal) → lookup_at line ≡ Err refusal → AnswersLine moves old line old (Refused refusal)
   answers_fault old line refusal said = inl (subst (λ (r : Result CommandValue Refusal). Tells moves old r old (Refused refusal)) (sym said) (refl, refl))
@@ -201,37 +222,37 @@ said_kept line = elim (cases_lt 65536 (length line)) [
   | inr short ↦ (ap lookup_at (kept_bytes-short line short), ap is_too_long (kept_bytes-short line short))
 ]
 
-answers_kept : (moves : Moving LiveReaderValue) (old new : LiveReaderValue) (line : List ℕ) (answer : Answer) → AnswersWith (AnswersLine moves) (LooksFor moves) old (kept_bytes line) new answer → AnswersWith (AnswersLine moves) (LooksFor moves) old line new answer
+answers_kept : (moves : Moving LiveReaderValue) (old new : LiveReaderValue) (line : List ℕ) (answer : LineOutcome) → AnswersWith (AnswersLine moves) (LooksFor moves) old (kept_bytes line) new answer → AnswersWith (AnswersLine moves) (LooksFor moves) old line new answer
 answers_kept moves old new line (Done reply) answered =
     let same = said_kept line in
     subst (λ (r : Result CommandValue Refusal). Tells moves old r new reply ⊎ ((is_too_long line ≡ false) × RefusesLine old Memory new reply)) same.0
     (subst (λ (b : Bool). Tells moves old (lookup_at (kept_bytes line)) new reply ⊎ ((b ≡ false) × RefusesLine old Memory new reply)) same.1 answered)
-answers_kept moves old new line (Begun going) begun = record { command = begun.command; reads = sym (said_kept line).0 ∙ begun.reads; so_far = begun.so_far }
+answers_kept moves old new line (Begun pending) begun = record { command = begun.command; reads = sym (said_kept line).0 ∙ begun.reads; so_far = begun.so_far }
 
 module _ (moves : Moving LiveReaderValue) (pre : IsPreorder moves) where
   -- a line that has its reply, or was begun
-  given : (old new : LiveReaderValue) (ended : EndedBy) (text : List ℕ) (answer : Answer) → (ended ≡ Input → text ≢ []) → AnswersWith (AnswersLine moves) (LooksFor moves) old text new answer
+  given : (old new : LiveReaderValue) (ended : EndedBy) (text : List ℕ) (answer : LineOutcome) → (ended ≡ Input → text ≢ []) → AnswersWith (AnswersLine moves) (LooksFor moves) old text new answer
       → AnswersBy (reads_lines moves) old ended text new (given_by answer)
   given old new Newline text (Done reply) some answered = record { reply = reply; shown = refl; made = answered }
-  given old new Newline text (Begun going) some begun = record { looks = begun; gives_up = λ later moved. given_up moves pre old new later moved Newline text going begun }
+  given old new Newline text (Begun pending) some begun = record { looks = begun; gives_up = λ later moved. given_up moves pre old new later moved Newline text pending begun }
   given old new Input [] answer some answered = absurd (some refl refl)
   given old new Input (b ∷ part) (Done reply) some answered = record { reply = reply; shown = refl; made = answered }
-  given old new Input (b ∷ part) (Begun going) some begun = record { looks = begun; gives_up = λ later moved. given_up moves pre old new later moved Input (b ∷ part) going begun }
+  given old new Input (b ∷ part) (Begun pending) some begun = record { looks = begun; gives_up = λ later moved. given_up moves pre old new later moved Input (b ∷ part) pending begun }
 
   -- a line is answered by its first bytes
-  pub answers_by : (old new : LiveReaderValue) (ended : EndedBy) (bytes text : List ℕ) (answer : Answer) → bytes ≡ kept_bytes text → (ended ≡ Input → bytes ≢ [])
+  pub answers_by : (old new : LiveReaderValue) (ended : EndedBy) (bytes text : List ℕ) (answer : LineOutcome) → bytes ≡ kept_bytes text → (ended ≡ Input → bytes ≢ [])
       → AnswersWith (AnswersLine moves) (LooksFor moves) old bytes new answer → AnswersBy (reads_lines moves) old ended text new (given_by answer)
   answers_by old new ended bytes text answer is some answered =
       given old new ended text answer (λ last none. some last (is ∙ ap kept_bytes none ∙ kept_bytes-nil))
       (answers_kept moves old new text answer (subst (λ (bs : List ℕ). AnswersWith (AnswersLine moves) (LooksFor moves) old bs new answer) is answered))
 
   -- a line that is looked up so far comes to its reply, or goes on
-  pub goes_by : (was between now : LiveReaderValue) (ended : EndedBy) (text : List ℕ) (going : Going) (answer : Answer) → by_end (LooksFor moves) (LooksForLast moves) was ended text between going
-      → ((command : CommandValue) → LooksOn moves was command between going → LooksTo moves was command now answer) → AnswersBy (reads_lines moves) was ended text now (given_by answer)
-  goes_by was between now Newline text going answer looks on =
+  pub goes_by : (was between now : LiveReaderValue) (ended : EndedBy) (text : List ℕ) (pending : PendingLookup) (answer : LineOutcome) → by_end (LooksFor moves) (LooksForLast moves) was ended text between pending
+      → ((command : CommandValue) → LooksOn moves was command between pending → LooksTo moves was command now answer) → AnswersBy (reads_lines moves) was ended text now (given_by answer)
+  goes_by was between now Newline text pending answer looks on =
       given was now Newline text answer (λ is. absurd (cc)) (answers_said moves was now text looks.command answer looks.reads (on looks.command looks.so_far))
-  goes_by was between now Input [] going answer looks on = absurd looks
-  goes_by was between now Input (b ∷ part) going answer looks on =
+  goes_by was between now Input [] pending answer looks on = absurd looks
+  goes_by was between now Input (b ∷ part) pending answer looks on =
       given was now Input (b ∷ part) answer (λ is none. absurd (omega (arith, ap length none))) (answers_said moves was now (b ∷ part) looks.command answer looks.reads (on looks.command looks.so_far))
 
 -- the input is at its end after a newline
@@ -250,7 +271,7 @@ refuses_by moves old Input (b ∷ part) long = record { reply = Refused TooLong;
 
 -- ---- the same by a reader that a handler has alone
 
-pub seen_alone : {V : Type 0} (see : V → LiveReaderValue) (was now : V) (ended : EndedBy) (text : List ℕ) (answer : Answer) → AnswersBy (reads_lines Stays) (see was) ended text (see now) (given_by answer)
+pub seen_alone : {V : Type 0} (see : V → LiveReaderValue) (was now : V) (ended : EndedBy) (text : List ℕ) (answer : LineOutcome) → AnswersBy (reads_lines Stays) (see was) ended text (see now) (given_by answer)
     → AnswersBy (reads_by see) was ended text now (given_by answer)
 seen_alone see was now ended text (Done reply) is = is
-seen_alone see was now ended text (Begun going) is = is
+seen_alone see was now ended text (Begun pending) is = is

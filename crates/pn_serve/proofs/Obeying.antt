@@ -4,44 +4,40 @@ use Rattle.std.specs.Prelude.{Result, Ok, Err, Vec, IfOk, MatchResult}
 use Rattle.std.specs.List.{position}
 use Rattle.std.specs.declared.alloc.Global.{Global}
 use Rattle.serde_json.specs.Data.{Data}
-use Rattle.pn_json.specs.Lines.{line_of}
+use Rattle.pn_json.specs.Tokens.{line_of}
 use Rattle.pn_join.specs.Marks.{Positions}
 use Rattle.pn_join.specs.declared.memory.NoMemory.{NoMemory}
 use Rattle.pn_tablet.specs.Copies.{TabletCopyValue, IsCopy}
-use Rattle.pn_tablet.specs.Refusals.{Refuses}
+use Rattle.pn_tablet.specs.Steps.{Refuses}
 use Rattle.pn_tablet.specs.Steps as steps
 use Rattle.pn_tablet.specs.Tablets.{TabletStateValue, same_range}
 use Rattle.pn_tablet.specs.declared.fault.OpFault.{OpFault as AdoptFault}
 use Rattle.pn_tablet.specs.declared.fault.OpFault.TheVariants as adoption
 use Rattle.pn_tablet.specs.declared.fault.Shortfall.{Shortfall}
 use Rattle.pn_tablet.specs.declared.state.TabletOp.TheVariants.{Lose}
-use Rattle.pn_region.specs.Advancing.{after_advance, is_memory, with_marks}
+use Rattle.pn_region.specs.Recovery.{after_advance, is_no_advance as is_memory, with_marks, after_adoption, after_adoption_by, after_adoption_unless, after_loss, lacks, tablet_for}
 use Rattle.pn_region.specs.Events.{RegionEvent, AllLeadTo}
-use Rattle.pn_region.specs.Logged.{with_break}
-use Rattle.pn_region.specs.Recovery.{after_adoption, after_adoption_by, after_adoption_unless, after_loss, lacks, tablet_for}
+use Rattle.pn_region.specs.Log.{with_break}
 use Rattle.pn_region.specs.Regions.{RegionValue, IsRegion}
 use Rattle.pn_region.specs.declared.fault.AdvanceFault.{AdvanceFault}
 use Rattle.pn_region.specs.declared.fault.AdvanceFault.TheVariants as advancing
-use Rattle.pn_live.specs.LiveRegions.{LiveRegionValue, core}
-use Rattle.pn_live.specs.Recovery.{after_op_at, Adopts, Advances}
+use Rattle.pn_live.specs.LiveRegions.{LiveRegionValue, core, after_op_at, Adopts, Advances}
 use Rattle.pn_live.specs.PublishedTablets.{PublishedTabletValue}
 use Rattle.pn_live.proofs.Adopting.{found_tablet}
 use Rattle.pn_live.proofs.Events.{all_lead}
-use Rattle.pn_protocol.specs.Reply.Faults.{adopt_fault_data, advance_fault_data}
-use Rattle.pn_protocol.specs.Reply.Refusals.{Tells, Refuses as RefusesBy}
-use Rattle.pn_protocol.specs.Reply.Short.{adopted_data, lost_data}
-use Rattle.pn_protocol.specs.Reply.Tablets.{marks_reply_data}
-use Rattle.pn_protocol.specs.declared.refusal.Part.TheVariants.{Tablet}
+use Rattle.pn_protocol.specs.Reply.Faults.{adopt_fault_data, advance_fault_data, Tells, Refuses as RefusesBy}
+use Rattle.pn_protocol.specs.Reply.Short.{adopted_data, lost_data, marks_reply_data}
+use Rattle.pn_protocol.specs.declared.refusal.MemberName.TheVariants.{Tablet}
 use Rattle.pn_protocol.specs.declared.refusal.Refusal.TheVariants.{OutOfRange, Memory}
 use Rattle.pn_protocol.specs.declared.reply.Reply.{Reply}
 use Rattle.pn_protocol.specs.declared.reply.Reply.TheVariants.{Adopted, Lost, Text, Refused}
 use Rattle.pn_protocol.specs.declared.reply.refusals.CommandFault.TheVariants.{Adoption, Advance}
 use Rattle.pn_serve.specs.Control.Commands.{Said, said_by, logged, asked_turn, advance_turn, event_of, event_by, with_event, IsAfter, ObeysLive}
 use Rattle.pn_serve.specs.Machine.Outcomes.{awaits_command, machine_over, reply_turn, Turn}
-use Rattle.pn_serve.specs.Machine.Recovering.{adoption_turn, at_tablet}
+use Rattle.pn_serve.specs.Machine.Doing.{adoption_turn, at_tablet}
 use Rattle.pn_serve.specs.declared.control.commands.WriterCommand.{WriterCommand}
 use Rattle.pn_serve.specs.declared.control.commands.WriterCommand.TheVariants as commands
-use Rattle.pn_serve.proofs.Recovering.{not_memory, no_tablet, tablet_there, telling}
+use Rattle.pn_serve.proofs.Relaying.{not_memory, no_tablet, tablet_there, telling}
 use Rattle.pn_serve.proofs.Turns.{told_or_out}
 
 module _ (live : LiveRegionValue) (asked : WriterCommand) where

@@ -9,43 +9,36 @@ use Rattle.std.proofs.lemmas.Bool.Decides.{nat_tests}
 use Rattle.std.proofs.lemmas.List.{take-append-drop}
 use Rattle.pn_join.proofs.Indices.{not_found_below}
 use Rattle.pn_join.proofs.Rising.{Rising, Rising-from_sorted}
-use Rattle.pn_json.specs.Lines.{line_of}
-use Rattle.pn_record.specs.CellMap.{Entries}
-use Rattle.pn_record.specs.Order.{bytes_cmp}
-use Rattle.pn_record.specs.Sets.{CellValue}
-use Rattle.pn_record.proofs.HeldRecords.{tied_keys}
+use Rattle.pn_json.specs.Tokens.{line_of}
+use Rattle.pn_record.specs.Cells.{Entries}
+use Rattle.pn_record.specs.Sets.{bytes_cmp, CellValue}
+use Rattle.pn_record.proofs.CellMaps.{tied_keys}
 use Rattle.pn_scan.specs.Pages.{PageValue}
-use Rattle.pn_tablet.specs.Ranges.{is_end}
+use Rattle.pn_tablet.specs.Layouts.{is_end}
 use Rattle.pn_scan.specs.Queries.{QueryValue, query_after, is_condition, is_limit, query_fits, is_query}
 use Rattle.pn_scan.specs.declared.query.TheConstants.{MAX_CONDITIONS}
 use Rattle.pn_scan.specs.Shown.{is_shown, shown_rows}
-use Rattle.pn_scan.specs.Walks.{ArePages, left_by, rows_of}
-use Rattle.pn_scan.specs.declared.fault.ScanFault.{ScanFault}
+use Rattle.pn_scan.specs.Views.{ArePages, left_by, rows_of}
+use Rattle.pn_scan.specs.declared.view.ScanFault.{ScanFault}
 use Rattle.pn_scan.proofs.Continuing.{shown_after}
-use Rattle.pn_scan.proofs.RisingPages.{AllAfter}
-use Rattle.pn_scan.proofs.WalkLaws.{Ending, whole, goes_on, ending_of, IsCutFrom, page_cut}
+use Rattle.pn_scan.proofs.WalkLaws.{AllAfter, Ending, whole, goes_on, ending_of, IsCutFrom, page_cut}
 use Rattle.pn_region.specs.Events.{RegionEvent}
-use Rattle.pn_region.specs.PageWalks.{IsAnswered, IsAnsweredOf}
-use Rattle.pn_region.specs.Reads.{all_looks, page_in}
+use Rattle.pn_region.specs.Reads.{IsAnswered, IsAnsweredOf, all_looks, page_in}
 use Rattle.pn_region.specs.Regions.{RegionValue, IsRegion, all_cells}
 use Rattle.pn_region.proofs.EventSteps.{event_is}
-use Rattle.pn_region.proofs.Ordered.{all_rising}
-use Rattle.pn_region.proofs.PageWalks.{pages_of_cells, answered_rise}
-use Rattle.pn_region.proofs.ReadLaws.{all_together}
+use Rattle.pn_region.proofs.TakenImages.{all_rising}
+use Rattle.pn_region.proofs.ReadLaws.{pages_of_cells, answered_rise, all_together}
 use Rattle.pn_protocol.specs.declared.refusal.Refusal.{Refusal}
 use Rattle.pn_protocol.specs.Command.Lines.{command_at}
 use Rattle.pn_protocol.specs.Command.Meaning.{CommandValue, scan}
-use Rattle.pn_protocol.specs.Reply.Scan.{scan_data}
+use Rattle.pn_protocol.specs.Reply.Records.{scan_data}
 use Rattle.pn_protocol.proofs.CommandLines.{line_found}
 use Rattle.pn_serve.specs.Machine.Doing.{lookup_turn}
-use Rattle.pn_serve.specs.Machine.LastTurns.{last_of, end_in, end_turn}
+use Rattle.pn_serve.specs.Machine.Turns.{last_of, end_in, end_turn, turn_of, outcome_at, turn_in, turn}
 use Rattle.pn_serve.specs.Machine.Outcomes.{Outcome, done, line, call, round, Mode, awaits_command, Machine, Turn}
-use Rattle.pn_serve.specs.Machine.Turns.{turn_of, outcome_at, turn_in, turn}
 use Rattle.pn_serve.specs.Script.Events.{events_in}
-use Rattle.pn_serve.specs.Script.Inputs.{InputEnd, Input}
-use Rattle.pn_serve.specs.Script.Pages.{ShowsPage, ShowsNext, EndsPages, ShowPages, shown_cell}
-use Rattle.pn_serve.specs.Script.Lines.{ToldLine, told_lines, after_line}
-use Rattle.pn_serve.specs.Script.Told.{Told, machine_of}
+use Rattle.pn_serve.specs.Script.Written.{InputEnd, Input, ToldLine, told_lines, after_line}
+use Rattle.pn_serve.specs.Script.Laws.{ShowsPage, ShowsNext, EndsPages, ShowPages, shown_cell, Told, machine_of}
 use Rattle.pn_serve.proofs.Happened.{OneLeads, line_leads}
 use Rattle.pn_serve.proofs.ScriptLaws.{after_is}
 

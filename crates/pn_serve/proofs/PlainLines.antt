@@ -4,38 +4,27 @@ use Rattle.std.specs.Prelude.{Result, Ok, Err, Option, Some, None, slice_get}
 use Rattle.std.proofs.lemmas.List.Elements.{All-head, All-tail, All-nil, All-cons}
 use Rattle.pn_line.specs.Text.{last_line}
 use Rattle.pn_join.specs.Marks.{Positions}
-use Rattle.pn_stream.specs.Brokers.{BrokerRecord}
-use Rattle.pn_stream.specs.Positions.{DeliveryValue}
-use Rattle.pn_tablet.specs.Copies.{TabletCopyValue}
-use Rattle.pn_tablet.specs.Copying.{copy_of}
+use Rattle.pn_stream.specs.Brokers.{BrokerRecord, DeliveryValue}
+use Rattle.pn_tablet.specs.Copies.{TabletCopyValue, copy_of}
 use Rattle.pn_tablet.specs.Layouts.{Bounds, layout_of}
 use Rattle.pn_tablet.specs.Tablets.{TabletStateValue}
 use Rattle.pn_tablet.specs.declared.fault.CopyFault.{CopyFault}
 use Rattle.pn_tablet.specs.declared.layout.LayoutFault.{LayoutFault}
 use Rattle.pn_region.specs.Events as events
-use Rattle.pn_region.specs.Events.{RegionEvent}
-use Rattle.pn_region.specs.Marking.{new_marks}
+use Rattle.pn_region.specs.Events.{RegionEvent, taken_by, all_taken, LosesNothing, LoseNothing}
+use Rattle.pn_region.specs.Rounds.{new_marks, round as taken_round}
 use Rattle.pn_region.specs.Regions.{RegionValue, new_region}
-use Rattle.pn_region.specs.Relayouts.{after_relayout}
-use Rattle.pn_region.specs.Rounds.{round as taken_round}
-use Rattle.pn_region.specs.Taken.{taken_by, all_taken, LosesNothing, LoseNothing}
+use Rattle.pn_region.specs.Recovery.{after_relayout}
 use Rattle.pn_region.specs.declared.fault.RelayoutFault.{RelayoutFault}
 use Rattle.pn_region.specs.declared.fault.RoundFault.{RoundFault}
 use Rattle.pn_protocol.specs.declared.refusal.Refusal.{Refusal}
 use Rattle.pn_protocol.specs.Command.Meaning.{CommandValue, adopt, copy, deliver, get, lose, marks, notices, read, relayout, scan, tablets}
 use Rattle.pn_protocol.specs.Command.Lines.{command_at}
-use Rattle.pn_serve.specs.Machine.Doing.{delivery_turn}
+use Rattle.pn_serve.specs.Machine.Doing.{delivery_turn, at_tablet, copy_reply_turn, copy_turn, relaid_turn, relayout_turn}
 use Rattle.pn_serve.specs.Machine.Outcomes.{Outcome, done, line, call, round, Mode, awaits_command, Machine, Turn, new_machine}
-use Rattle.pn_serve.specs.Machine.Recovering.{at_tablet, copy_reply_turn, copy_turn}
-use Rattle.pn_serve.specs.Machine.Relaying.{relaid_turn, relayout_turn}
-use Rattle.pn_serve.specs.Machine.LastTurns.{last_of, end_in, end_turn}
-use Rattle.pn_serve.specs.Machine.Turns.{turn_of, outcome_at, turn_in, turn}
-use Rattle.pn_serve.specs.Script.Events.{unless_refused, some_tablet, half_round_events, events_by, events_in, events_from}
-use Rattle.pn_serve.specs.Script.Happened.{events_of_input, events_of_last, events_of_end, events_at_end}
-use Rattle.pn_serve.specs.Script.Inputs.{InputEnd, Input, line_at_end, all_lines, machine_at_end}
-use Rattle.pn_serve.specs.Script.Lines.{KeepsTablets, NoLosses}
-use Rattle.pn_serve.specs.Script.Taken.{images_taken, NothingLost, Waits}
-use Rattle.pn_serve.specs.Script.Written.{first_outcome, later_outcomes, machine_after}
+use Rattle.pn_serve.specs.Machine.Turns.{last_of, end_in, end_turn, turn_of, outcome_at, turn_in, turn}
+use Rattle.pn_serve.specs.Script.Events.{unless_refused, some_tablet, half_round_events, events_by, events_in, events_from, events_of_input, events_of_last, events_of_end, events_at_end, images_taken, NothingLost, Waits}
+use Rattle.pn_serve.specs.Script.Written.{InputEnd, Input, line_at_end, all_lines, machine_at_end, KeepsTablets, NoLosses, first_outcome, later_outcomes, machine_after}
 
 -- ---- of what loses nothing the record of brokers says nothing
 

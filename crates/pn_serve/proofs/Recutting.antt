@@ -1,48 +1,81 @@
--- Regions that start from copies without being served, and what they give in another layout.
-use Rattle.std.proofs.Common.{◌≡◌, ℕ, suc, arith, ◌+◌, Bool, false, cond, not, nat_lt, List, [], ◌∷◌, ◌++◌, length, map, take, drop, slice_get, Option, None, Some, Result, Ok, Err, ◌⊎◌, inl, inr, refl, sym, ap, ap₂, ◌∙◌, subst}
+-- Regions that start from copies, why they do not, and what they give in another layout.
+use Rattle.std.proofs.Common.{◌≡◌, ◌≢◌, List, Err, inl, inr, map, ℕ, suc, arith, ◌+◌, Bool, false, cond, not, nat_lt, [], ◌∷◌, ◌++◌, length, take, drop, slice_get, Option, None, Some, Result, Ok, ◌⊎◌, refl, sym, ap, ap₂, ◌∙◌, subst}
 use Rattle.std.specs.Prelude.{MatchResult, IsSomeAnd}
+use Rattle.std.specs.List.Sorted.{IsPermutation, IsSortedByKey}
+use Rattle.std.specs.Option.{option_cmp, option_to_list}
 use Rattle.std.specs.List.{AllByRecursion, flat_map, position_or_len}
-use Rattle.std.specs.Option.{option_to_list}
-use Rattle.std.specs.List.Sorted.{IsPermutation}
 use Rattle.std.proofs.lemmas.Bool.Decides.{nat_tests}
 use Rattle.std.proofs.lemmas.List.{append_assoc, map-append, take-append-drop}
 use Rattle.std.proofs.lemmas.List.Elements.{All-from_recursion, recursion_from_All}
 use Rattle.std.proofs.lemmas.List.Sorted.{All-permutation}
-use Rattle.pn_json.proofs.TokenLists.{taken_next}
-use Rattle.pn_stream.specs.Brokers.{BrokerRecord}
-use Rattle.pn_tablet.specs.Copies.{TabletCopyValue}
-use Rattle.pn_tablet.specs.Copying.{copy_from, copy_of, copy_shortfall, unless_behind}
-use Rattle.pn_tablet.specs.Layouts.{Bounds, IsLayout}
-use Rattle.pn_tablet.specs.Ranges.{Ends}
-use Rattle.pn_tablet.specs.Refusals.{Refuses}
-use Rattle.pn_tablet.specs.Steps.{is_memory}
+use Rattle.pn_json.proofs.AppendedTexts.{taken_next}
+use Rattle.pn_record.specs.Sets.{bytes_cmp}
+use Rattle.pn_tablet.specs.Copies.{TabletCopyValue, copy_from, copy_of, copy_shortfall, unless_behind}
+use Rattle.pn_tablet.specs.Layouts.{layout_with, Bounds, IsLayout, Ends}
+use Rattle.pn_tablet.specs.declared.layout.CutFault.{CutFault}
+use Rattle.pn_tablet.specs.declared.fault.OpFault.{OpFault}
+use Rattle.pn_tablet.specs.Steps.{Refuses, is_memory}
 use Rattle.pn_tablet.specs.declared.fault.CopyFault.{CopyFault}
-use Rattle.pn_tablet.specs.declared.fault.OpFault.{OpFault as AdoptFault}
 use Rattle.pn_tablet.specs.Tablets.{TabletStateValue}
-use Rattle.pn_tablet.specs.declared.fault.OpFault.TheVariants as op
 use Rattle.pn_tablet.specs.declared.fault.Shortfall.{Shortfall}
 use Rattle.pn_tablet.specs.declared.state.Status.{Status}
 use Rattle.pn_tablet.specs.declared.state.Status.TheVariants.{Recovering, Serving}
+use Rattle.pn_tablet.specs.declared.layout.CutFault.TheVariants as cut
+use Rattle.pn_tablet.specs.declared.fault.OpFault.TheVariants as adopt
+use Rattle.pn_stream.specs.Brokers.{BrokerRecord}
 use Rattle.pn_apply.specs.Reducing.{ranges}
-use Rattle.pn_region.specs.Advancing.{after_advance}
-use Rattle.pn_region.specs.Events.{AllLeadTo, IsAdoption, relayout}
-use Rattle.pn_region.specs.Faith.{AreFaithful}
-use Rattle.pn_region.specs.Honest.{IsHonestCopy}
-use Rattle.pn_region.specs.Recovery.{after_adoption}
-use Rattle.pn_region.specs.Regions.{RegionValue, all_cells}
-use Rattle.pn_region.specs.Relayouts.{after_relayout, first_recovering, is_memory as is_no_relayout, is_recovering, made_of, with_layout, with_layout_unless}
-use Rattle.pn_region.specs.Serving.{AllServe}
-use Rattle.pn_region.specs.Starting.{AreHonestCopies, start_events}
+use Rattle.pn_region.specs.Regions.{new_region, RegionValue, all_cells}
+use Rattle.pn_region.specs.Recovery.{after_advance, after_adoption, after_relayout, first_recovering, is_memory as is_no_relayout, is_recovering, made_of, with_layout, with_layout_unless}
+use Rattle.pn_region.specs.Events.{AllLeadTo, IsAdoption, relayout, IsHonestCopy, AreHonestCopies, start_events}
+use Rattle.pn_region.specs.Laws.{AreFaithful}
+use Rattle.pn_region.specs.Reads.{AllServe}
 use Rattle.pn_region.specs.declared.fault.RelayoutFault.{RelayoutFault}
 use Rattle.pn_region.specs.declared.fault.RelayoutFault.TheVariants.{StillRecovering}
-use Rattle.pn_region.proofs.FaithfulCopies.{given_is_honest}
+use Rattle.pn_region.proofs.FaithfulEvents.{given_is_honest}
 use Rattle.pn_region.proofs.Relaying.{relays, same_records}
 use Rattle.pn_region.proofs.Starting.{later_faithful, started_is}
-use Rattle.pn_live.specs.Starting.{StopsAt}
+use Rattle.pn_region.specs.declared.fault.AdvanceFault.TheVariants as advance
+use Rattle.pn_live.specs.LiveRegions.{StopsStart, StopsAt}
 use Rattle.pn_live.specs.declared.fault.StartFault.{StartFault}
-use Rattle.pn_live.specs.declared.fault.StartFault.TheVariants.{Adopt as NotAdopted}
-use Rattle.pn_serve.specs.Copies.Recutting.{AreRecut, IsShortAt, StopsGiving, copies_from}
+use Rattle.pn_live.specs.declared.fault.StartFault.TheVariants.{Adopt, Advance, Open}
+use Rattle.pn_live.proofs.Adopting.{StopsOnly, all_adopted}
+use Rattle.pn_serve.specs.Copies.{NoRefusal, StopsOpen, cut_fault, start_fault, AreRecut, IsShortAt, StopsGiving, copies_from}
 use Rattle.pn_serve.specs.declared.copies.fault.CopiesFault.{CopiesFault}
+
+-- Why a live region does not start from copies.
+
+-- the copies are those of no layout
+pub cut_stops : (copies ordered : List TabletCopyValue) (fault : CutFault) → IsPermutation copies ordered → IsSortedByKey (λ (copy : TabletCopyValue). copy.range.0) (option_cmp bytes_cmp) ordered
+    → (fault ≢ cut.Memory → layout_with (map (λ (copy : TabletCopyValue). copy.range) ordered) ≡ Err fault) → StopsOpen copies (cut_fault fault)
+cut_stops copies ordered cut.TooMany same order exact = record { ordered = ordered; same = same; order = order; fault_is = exact (λ is. cc) }
+cut_stops copies ordered (cut.NoCopy key) same order exact = record { ordered = ordered; same = same; order = order; fault_is = exact (λ is. cc) }
+cut_stops copies ordered (cut.TwoCopies key) same order exact = record { ordered = ordered; same = same; order = order; fault_is = exact (λ is. cc) }
+cut_stops copies ordered cut.Memory same order exact = tt
+
+never : (fault : OpFault) → fault ≢ adopt.Memory → StopsOnly (Adopt fault) → ⊥
+never fault other (inl is) = other (cc)
+never fault other (inr (inl is)) = cc
+never fault other (inr (inr is)) = cc
+
+-- no copy of a tablet is refused
+pub not_refused : (ordered : List TabletCopyValue) (bounds : Bounds) (fault : StartFault) → map (λ (copy : TabletCopyValue). copy.range) ordered ≡ ranges bounds
+    → StopsStart ordered (new_region bounds) fault → NoRefusal fault
+not_refused ordered bounds (Open fault) own stops = tt
+not_refused ordered bounds (Adopt adopt.WrongRange) own stops = never adopt.WrongRange (λ is. cc) (all_adopted ordered bounds (Adopt adopt.WrongRange) own stops)
+not_refused ordered bounds (Adopt (adopt.TooOld stream has needs)) own stops = never (adopt.TooOld stream has needs) (λ is. cc) (all_adopted ordered bounds (Adopt (adopt.TooOld stream has needs)) own stops)
+not_refused ordered bounds (Adopt adopt.Memory) own stops = tt
+not_refused ordered bounds (Advance fault) own stops = tt
+
+-- the region of a layout does not start
+pub start_stops : (copies ordered : List TabletCopyValue) (bounds : Bounds) (fault : StartFault) → IsPermutation copies ordered → IsLayout bounds
+    → map (λ (copy : TabletCopyValue). copy.range) ordered ≡ ranges bounds → StopsStart ordered (new_region bounds) fault → StopsOpen copies (start_fault fault)
+start_stops copies ordered bounds (Advance advance.TooManyStreams) same lawful own stops =
+    record { ordered = ordered; same = same; bounds = bounds; lawful = lawful; own = own; stops = stops }
+start_stops copies ordered bounds (Advance advance.Memory) same lawful own stops = tt
+start_stops copies ordered bounds (Open fault) same lawful own stops = tt
+start_stops copies ordered bounds (Adopt fault) same lawful own stops = tt
+
+-- Regions that start from copies without being served, and what they give in another layout.
 
 -- wherever the copies that are left lead from here, all copies lead from the start
 abbrev pub LeadOn : List TabletCopyValue → RegionValue → List TabletCopyValue → RegionValue → Type 0
@@ -61,26 +94,26 @@ pub at_last : (all : List TabletCopyValue) (region after start : RegionValue) �
 at_last all region after start advances on = on after (after, advances, refl)
 
 -- after a copy, or its refusal
-abbrev StopsBy : List TabletCopyValue → StartFault → Result (ℕ × RegionValue) AdoptFault → Type 0
-StopsBy left fault right = MatchResult right (λ taken. (fault ≡ NotAdopted op.Memory) ⊎ StopsAt left taken.1 fault) (λ refusal. fault ≡ NotAdopted refusal)
+abbrev StopsBy : List TabletCopyValue → StartFault → Result (ℕ × RegionValue) OpFault → Type 0
+StopsBy left fault right = MatchResult right (λ taken. (fault ≡ Adopt adopt.Memory) ⊎ StopsAt left taken.1 fault) (λ refusal. fault ≡ Adopt refusal)
 
 pub one_stop : (copy : TabletCopyValue) (left all : List TabletCopyValue) (region after start : RegionValue) → IsAdoption copy region after → StopOn (copy ∷ left) region all start → StopOn left after all start
 one_stop copy left all region after start leads on fault stops = on fault (subst (StopsBy left fault) (sym leads.adopted) (inr stops))
 
 -- a copy that is refused stops there
-pub not_adopted : (copy : TabletCopyValue) (left : List TabletCopyValue) (region : RegionValue) (fault : AdoptFault) → Refuses is_memory fault (after_adoption region copy) → StopsAt (copy ∷ left) region (NotAdopted fault)
+pub not_adopted : (copy : TabletCopyValue) (left : List TabletCopyValue) (region : RegionValue) (fault : OpFault) → Refuses is_memory fault (after_adoption region copy) → StopsAt (copy ∷ left) region (Adopt fault)
 not_adopted copy left region fault is = by_fault fault (after_adoption region copy) is where
-  refused : (fault : AdoptFault) (right : Result (ℕ × RegionValue) AdoptFault) → right ≡ Err fault → StopsBy left (NotAdopted fault) right
+  refused : (fault : OpFault) (right : Result (ℕ × RegionValue) OpFault) → right ≡ Err fault → StopsBy left (Adopt fault) right
   refused fault (Ok taken) is = cc
   refused fault (Err refusal) is =
       let same : refusal ≡ fault = cc in
-      ap NotAdopted (sym same)
+      ap Adopt (sym same)
 
-  by_fault : (fault : AdoptFault) (right : Result (ℕ × RegionValue) AdoptFault) → Refuses is_memory fault right → StopsBy left (NotAdopted fault) right
-  by_fault op.Memory (Ok taken) is = inl refl
-  by_fault op.Memory (Err refusal) is = cc
-  by_fault op.WrongRange right is = refused op.WrongRange right is
-  by_fault (op.TooOld stream has needs) right is = refused (op.TooOld stream has needs) right is
+  by_fault : (fault : OpFault) (right : Result (ℕ × RegionValue) OpFault) → Refuses is_memory fault right → StopsBy left (Adopt fault) right
+  by_fault adopt.Memory (Ok taken) is = inl refl
+  by_fault adopt.Memory (Err refusal) is = cc
+  by_fault adopt.WrongRange right is = refused adopt.WrongRange right is
+  by_fault (adopt.TooOld stream has needs) right is = refused (adopt.TooOld stream has needs) right is
 
 -- ---- a region that serves changes its layout
 

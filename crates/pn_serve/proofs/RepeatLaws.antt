@@ -4,25 +4,20 @@ use Rattle.std.specs.Prelude.{Result, Ok, Err, Option, Some, None}
 use Rattle.std.specs.List.{AllByRecursion}
 use Rattle.std.specs.Result.{result_map_both}
 use Rattle.pn_join.specs.Marks.{Positions}
-use Rattle.pn_stream.specs.Positions.{DeliveryValue}
+use Rattle.pn_stream.specs.Brokers.{DeliveryValue}
 use Rattle.pn_region.specs.Events.{RegionEvent}
-use Rattle.pn_region.specs.Marking.{new_marks}
+use Rattle.pn_region.specs.Rounds.{new_marks, after_joins}
 use Rattle.pn_region.specs.Regions.{RegionValue}
-use Rattle.pn_region.specs.Rounds.{after_joins}
 use Rattle.pn_region.specs.declared.fault.RoundFault.{RoundFault}
 use Rattle.pn_protocol.specs.declared.refusal.Refusal.{Refusal}
 use Rattle.pn_protocol.specs.Command.Lines.{command_at}
 use Rattle.pn_protocol.specs.Command.Meaning.{CommandValue, adopt, copy, deliver, get, lose, marks, notices, read, relayout, scan, tablets}
-use Rattle.pn_serve.specs.Machine.Announced.{unless_call, with_line}
-use Rattle.pn_serve.specs.Machine.Doing.{delivery_turn}
-use Rattle.pn_serve.specs.Machine.LastTurns.{last_of, end_in, end_turn}
+use Rattle.pn_serve.specs.Machine.Turns.{unless_call, with_line, last_of, end_in, end_turn, turn_of, outcome_at, turn_in, turn}
+use Rattle.pn_serve.specs.Machine.Doing.{delivery_turn, text_adoption_turn}
 use Rattle.pn_serve.specs.Machine.Outcomes.{Outcome, done, line, call, round, Mode, awaits_command, announced, Machine, Turn, logged_region}
-use Rattle.pn_serve.specs.Machine.Recovering.{text_adoption_turn}
-use Rattle.pn_serve.specs.Machine.Turns.{turn_of, outcome_at, turn_in, turn}
 use Rattle.pn_serve.specs.Script.Events.{events_by, events_by_text, events_in}
-use Rattle.pn_serve.specs.Script.Inputs.{InputEnd, machine_at_end}
-use Rattle.pn_serve.specs.Script.Lines.{ToldLine, after_line}
-use Rattle.pn_serve.specs.Script.Repeats.{Delivers, IsAccepted, IsAcceptedAtEnd}
+use Rattle.pn_serve.specs.Script.Written.{InputEnd, machine_at_end, ToldLine, after_line}
+use Rattle.pn_serve.specs.Script.Laws.{Delivers, IsAccepted, IsAcceptedAtEnd}
 use Rattle.pn_serve.proofs.LineSteps.{Alike, said_steps, text_steps, line_steps}
 use Rattle.pn_serve.proofs.RepeatedRounds.{LookAlike, RunsAhead, caught_up, equal_carries}
 

@@ -3,29 +3,21 @@ use Rattle.std.proofs.Common.{◌≡◌, ◌⊎◌, inl, inr, Bool, true, false,
 use Rattle.std.specs.Prelude.{ℕ, Result, Ok, Err, Option}
 use Rattle.pn_join.specs.Marks.{Positions}
 use Rattle.pn_join.proofs.MarksFacts.{raised_marks-repeats}
-use Rattle.pn_stream.specs.Positions.{DeliveryValue}
+use Rattle.pn_stream.specs.Brokers.{DeliveryValue}
 use Rattle.pn_tablet.specs.Layouts.{Bounds}
-use Rattle.pn_region.specs.Events.{RegionEvent, AllLeadTo}
-use Rattle.pn_region.specs.Marking.{new_marks}
-use Rattle.pn_region.specs.Regions.{RegionValue, IsRegion, new_region}
-use Rattle.pn_region.specs.Rising.{AllRise}
-use Rattle.pn_region.specs.Rounds.{joins}
-use Rattle.pn_region.specs.Taken.{IsRound, AreRounds}
+use Rattle.pn_region.specs.Events.{RegionEvent, AllLeadTo, IsRound, AreRounds}
+use Rattle.pn_region.specs.Rounds.{new_marks, joins}
+use Rattle.pn_region.specs.Regions.{RegionValue, IsRegion, new_region, AllRise}
 use Rattle.pn_region.specs.declared.fault.RoundFault.{RoundFault}
 use Rattle.pn_region.proofs.EventSteps.{event_is, events_are}
-use Rattle.pn_region.proofs.RisingRegions.{new_region_rises, event_rises}
+use Rattle.pn_region.proofs.Events.{new_region_rises, event_rises}
 use Rattle.pn_region.proofs.RoundEnds.{fit}
 use Rattle.pn_protocol.specs.Command.Meaning.{deliver}
 use Rattle.pn_serve.specs.Machine.Outcomes.{Outcome, done, line, call, round, Machine, Turn, new_machine}
-use Rattle.pn_serve.specs.Machine.PartRounds.{after_part_with_marks}
-use Rattle.pn_serve.specs.Machine.Turns.{turn_of, outcome_at, turn}
-use Rattle.pn_serve.specs.Script.Events.{events_in}
-use Rattle.pn_serve.specs.Script.Happened.{events_of_input}
-use Rattle.pn_serve.specs.Script.Inputs.{InputEnd, Input, machine_at_end, after_input}
-use Rattle.pn_serve.specs.Script.Lines.{ToldLine, told_lines, after_line}
-use Rattle.pn_serve.specs.Script.Repeats.{IsRefused, IsRepeated, AreWithout, IsToldWithout}
-use Rattle.pn_serve.specs.Script.Told.{Told, machine_of}
-use Rattle.pn_serve.specs.Script.Written.{first_outcome, later_outcomes, machine_after}
+use Rattle.pn_serve.specs.Machine.Turns.{after_part_with_marks, turn_of, outcome_at, turn}
+use Rattle.pn_serve.specs.Script.Events.{events_in, events_of_input}
+use Rattle.pn_serve.specs.Script.Written.{InputEnd, Input, machine_at_end, after_input, ToldLine, told_lines, after_line, first_outcome, later_outcomes, machine_after}
+use Rattle.pn_serve.specs.Script.Laws.{IsRefused, IsRepeated, AreWithout, IsToldWithout, Told, machine_of}
 use Rattle.pn_serve.proofs.Happened.{OneLeads, line_leads}
 use Rattle.pn_serve.proofs.LineSteps.{Alike, line_steps}
 use Rattle.pn_serve.proofs.PartRounds.{some_or_none}

@@ -2,30 +2,25 @@
 use Rattle.std.proofs.Common.{◌≡◌, ◌⊎◌, inl, inr, Bool, true, false, if◌then◌else◌, List, [], ◌∷◌, map, refl, sym, ap, ◌∙◌, subst}
 use Rattle.std.specs.Prelude.{Result, Ok, Err}
 use Rattle.pn_join.specs.Marks.{Positions}
-use Rattle.pn_record.specs.declared.image.Image.{Image}
-use Rattle.pn_record.specs.CellMap.{Entries, table_of}
-use Rattle.pn_stream.specs.Positions.{DeliveryValue}
-use Rattle.pn_tablet.specs.Laws.{Rise}
-use Rattle.pn_tablet.specs.Layouts.{Bounds}
-use Rattle.pn_tablet.specs.Ranges.{Ends}
+use Rattle.pn_record.specs.declared.records.Image.{Image}
+use Rattle.pn_record.specs.Cells.{Entries, table_of}
+use Rattle.pn_stream.specs.Brokers.{DeliveryValue}
+use Rattle.pn_tablet.specs.Steps.{Rise, after_step, tablet_after}
+use Rattle.pn_tablet.specs.Layouts.{Bounds, Ends}
 use Rattle.pn_tablet.specs.Steps as steps
-use Rattle.pn_tablet.specs.Steps.{after_step, tablet_after}
 use Rattle.pn_tablet.specs.Tablets.{TabletStateValue, lie_in}
 use Rattle.pn_tablet.specs.declared.fault.OpFault.TheVariants.{WrongRange}
 use Rattle.pn_tablet.specs.declared.state.TabletOp.TheVariants.{Join, Adopt}
 use Rattle.pn_apply.specs.Applying.{all_stepped, AreOldOrStepped}
 use Rattle.pn_apply.specs.Reducing.{all_images, images_in, join_in, joins_of, ranges}
-use Rattle.pn_region.specs.Marking.{new_marks}
-use Rattle.pn_region.specs.Recovery.{after_loss, after_op}
-use Rattle.pn_region.specs.Regions.{RegionValue}
-use Rattle.pn_region.specs.Relayouts.{with_layout}
-use Rattle.pn_region.specs.Rising.{AllRise}
-use Rattle.pn_region.specs.Rounds.{after_joins, joins}
-use Rattle.pn_region.specs.Taken.{IsRound}
+use Rattle.pn_region.specs.Rounds.{new_marks, after_joins, joins}
+use Rattle.pn_region.specs.Recovery.{after_loss, after_op, with_layout}
+use Rattle.pn_region.specs.Regions.{RegionValue, AllRise}
+use Rattle.pn_region.specs.Events.{IsRound}
 use Rattle.pn_region.specs.declared.fault.RoundFault.{RoundFault}
-use Rattle.pn_region.proofs.HalfAhead.{MarksRise, tablets_rise, all_rise, all_joins_rise, all_on, made_up}
-use Rattle.pn_region.proofs.RisingMarks.{IsBelow, below_then, new_rise, new_above, new_both}
-use Rattle.pn_serve.specs.Machine.PartRounds.{some_after, after_part_with_marks}
+use Rattle.pn_region.proofs.Repeats.{MarksRise, tablets_rise, all_rise, all_joins_rise, all_on, made_up}
+use Rattle.pn_region.proofs.MarkLaws.{IsBelow, below_then, new_rise, new_above, new_both}
+use Rattle.pn_serve.specs.Machine.Turns.{some_after, after_part_with_marks}
 use Rattle.pn_serve.proofs.LineSteps.{SameFace, SameFaces, Carries}
 
 -- ---- joins leave the ranges of tablets, and what they need

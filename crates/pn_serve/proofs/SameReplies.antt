@@ -2,8 +2,7 @@
 use Rattle.std.proofs.Common.{◌≡◌, ℕ, ◌+◌, ◌-◌, nat_le, Bool, true, false, if◌then◌else◌, List, [], ◌∷◌, length, refl, ◌∙◌}
 use Rattle.std.specs.Prelude.{Result, Ok, Err, Option, Some, None, slice_get}
 use Rattle.pn_join.specs.Marks.{Positions}
-use Rattle.pn_tablet.specs.Copies.{TabletCopyValue}
-use Rattle.pn_tablet.specs.Copying.{copy_of}
+use Rattle.pn_tablet.specs.Copies.{TabletCopyValue, copy_of}
 use Rattle.pn_tablet.specs.CopyReading.{copy_at}
 use Rattle.pn_tablet.specs.Layouts.{Bounds, layout_of}
 use Rattle.pn_tablet.specs.Tablets.{TabletStateValue}
@@ -11,27 +10,22 @@ use Rattle.pn_tablet.specs.declared.fault.CopyTextFault.{CopyTextFault}
 use Rattle.pn_tablet.specs.declared.fault.CopyFault.{CopyFault}
 use Rattle.pn_tablet.specs.declared.layout.LayoutFault.{LayoutFault}
 use Rattle.pn_tablet.specs.declared.fault.OpFault.{OpFault as AdoptFault}
-use Rattle.pn_region.specs.Logged.{with_break}
-use Rattle.pn_region.specs.Recovery.{after_loss, after_adoption}
+use Rattle.pn_region.specs.Log.{with_break}
+use Rattle.pn_region.specs.Recovery.{after_loss, after_adoption, after_relayout}
 use Rattle.pn_region.specs.Regions.{RegionValue}
-use Rattle.pn_region.specs.Relayouts.{after_relayout}
 use Rattle.pn_region.specs.Rounds.{round as taken_round}
 use Rattle.pn_region.specs.declared.notices.Entry.{Entry}
 use Rattle.pn_region.specs.declared.fault.RelayoutFault.{RelayoutFault}
 use Rattle.pn_region.specs.declared.fault.RoundFault.{RoundFault}
-use Rattle.pn_json.specs.Lines.{line_of}
+use Rattle.pn_json.specs.Tokens.{line_of}
 use Rattle.pn_protocol.specs.declared.refusal.Refusal.{Refusal}
 use Rattle.pn_protocol.specs.Command.Lines.{command_at}
 use Rattle.pn_protocol.specs.Command.Meaning.{CommandValue, adopt, copy, deliver, get, lose, marks, notices, read, relayout, scan, tablets}
 use Rattle.pn_protocol.specs.Reply.Short.{lost_data}
-use Rattle.pn_serve.specs.Machine.Announced.{unless_call, with_line}
-use Rattle.pn_serve.specs.Machine.Doing.{delivery_turn}
-use Rattle.pn_serve.specs.Machine.LastTurns.{last_command_turn, last_of, end_in, end_turn}
+use Rattle.pn_serve.specs.Machine.Turns.{unless_call, with_line, last_command_turn, last_of, end_in, end_turn, command_turn, turn_of, outcome_at, turn_in, turn}
+use Rattle.pn_serve.specs.Machine.Doing.{delivery_turn, at_tablet, copy_reply_turn, copy_turn, loss_turn, adoption_turn, read_adoption_turn, text_adoption_turn, relaid_turn, relayout_turn}
 use Rattle.pn_serve.specs.Machine.Outcomes.{Outcome, done, line, call, round, Mode, awaits_command, announced, Machine, Turn, logged_region, silent_turn}
-use Rattle.pn_serve.specs.Machine.Recovering.{at_tablet, copy_reply_turn, copy_turn, loss_turn, adoption_turn, read_adoption_turn, text_adoption_turn}
-use Rattle.pn_serve.specs.Machine.Relaying.{relaid_turn, relayout_turn}
-use Rattle.pn_serve.specs.Machine.Turns.{command_turn, turn_of, outcome_at, turn_in, turn}
-use Rattle.pn_serve.specs.Script.Lines.{AsksNoNotices}
+use Rattle.pn_serve.specs.Script.Written.{AsksNoNotices}
 use Rattle.pn_serve.proofs.RepeatLaws.{Same}
 
 module _ (mode : Mode) (region : RegionValue) (log others : List Entry) where

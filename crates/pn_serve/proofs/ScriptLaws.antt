@@ -2,32 +2,30 @@
 use Rattle.std.proofs.Common.{◌≡◌, ◌⊎◌, inl, inr, ℕ, List, [], ◌∷◌, map, sym, ap, ◌∙◌, subst, refl}
 use Rattle.std.specs.Prelude.{Result, Ok, Err}
 use Rattle.std.specs.FinMap.{find}
-use Rattle.pn_record.specs.Order.{bytes_cmp}
-use Rattle.pn_record.specs.CellMap.{Entries, table_of}
+use Rattle.pn_record.specs.Sets.{bytes_cmp}
+use Rattle.pn_record.specs.Cells.{Entries, table_of}
 use Rattle.pn_stream.specs.Brokers.{BrokerRecord}
 use Rattle.pn_tablet.specs.Layouts.{Bounds, IsLayout}
-use Rattle.pn_region.specs.Events.{RegionEvent, round, half_round, loss, adoption, relayout as other_layout, advance, LeadsTo, AllLeadTo, AreHonestEvents}
-use Rattle.pn_region.specs.Held.{HoldsStill}
+use Rattle.pn_region.specs.Events.{RegionEvent, round, half_round, loss, adoption, relayout as other_layout, advance, LeadsTo, AllLeadTo, AreHonestEvents, LosesNothing, LoseNothing}
+use Rattle.pn_region.specs.Reads.{HoldsStill, AllServe, ServesAt}
 use Rattle.pn_region.specs.Regions.{RegionValue, IsRegion, new_region, all_cells}
-use Rattle.pn_region.specs.Serving.{AllServe, ServesAt}
-use Rattle.pn_region.specs.Taken.{LosesNothing, LoseNothing}
 use Rattle.pn_region.proofs.Advanced.{advances}
 use Rattle.pn_region.proofs.EventImages.{taken_together, rounds_together, alike}
 use Rattle.pn_region.proofs.FaithfulEvents.{events_faithful}
 use Rattle.pn_region.proofs.EventSteps.{takes, events_are}
 use Rattle.pn_region.proofs.Faith.{new_faithful}
-use Rattle.pn_region.proofs.NewRegion.{new_is}
+use Rattle.pn_region.proofs.RoundSteps.{new_is}
 use Rattle.pn_region.proofs.ReadLaws.{read_of_all, get_of_all, page_of_all}
 use Rattle.pn_region.proofs.Relaying.{relays}
-use Rattle.pn_region.proofs.ServedRecords.{event_record, events_record}
-use Rattle.pn_region.proofs.ServingTablets.{new_serves, taken_serves, half_serves}
-use Rattle.pn_region.proofs.StillHeld.{itself_held}
+use Rattle.pn_region.proofs.KeptEvents.{event_record, events_record}
+use Rattle.pn_region.proofs.RoundEnds.{new_serves, taken_serves, half_serves}
+use Rattle.pn_region.proofs.KeptRecords.{itself_held}
 use Rattle.pn_scan.specs.Pages.{first_page}
-use Rattle.pn_scan.specs.Reads.{unless_behind}
+use Rattle.pn_scan.specs.Views.{unless_behind}
 use Rattle.pn_scan.specs.Shown.{shown_rows}
-use Rattle.pn_scan.specs.declared.fault.ScanFault.{ScanFault}
+use Rattle.pn_scan.specs.declared.view.ScanFault.{ScanFault}
 use Rattle.serde_json.specs.Data.{Data}
-use Rattle.pn_json.specs.Lines.{line_of}
+use Rattle.pn_json.specs.Tokens.{line_of}
 use Rattle.pn_protocol.specs.declared.refusal.Refusal.{Refusal}
 use Rattle.pn_protocol.specs.declared.refusal.Refusal.TheVariants.{Memory}
 use Rattle.pn_protocol.specs.Command.Meaning.{CommandValue, adopt, copy, deliver, get, lose, marks, notices, read, relayout, scan, tablets}
@@ -35,16 +33,12 @@ use Rattle.pn_protocol.specs.Command.Lines.{command_at}
 use Rattle.pn_protocol.specs.Command.Lookups.{AsksForRecords}
 use Rattle.pn_serve.specs.Machine.Doing.{found_data, lookup_turn}
 use Rattle.pn_serve.specs.Machine.Outcomes.{Outcome, done, line, call, round as in_part, Mode, awaits_command, Machine, new_machine}
-use Rattle.pn_serve.specs.Machine.Turns.{turn_of, outcome_at, turn_in, turn}
-use Rattle.pn_serve.specs.Machine.LastTurns.{last_of, end_in, end_turn}
-use Rattle.pn_protocol.specs.Reply.Record.{read_data, get_data}
-use Rattle.pn_protocol.specs.Reply.Scan.{scan_data}
+use Rattle.pn_serve.specs.Machine.Turns.{turn_of, outcome_at, turn_in, turn, last_of, end_in, end_turn}
+use Rattle.pn_protocol.specs.Reply.Records.{read_data, get_data, scan_data}
 use Rattle.pn_protocol.specs.Reply.Short.{refusal_data}
-use Rattle.pn_serve.specs.Script.Events.{events_in}
-use Rattle.pn_serve.specs.Script.Happened.{events_of_input, events_of_end, events_since}
-use Rattle.pn_serve.specs.Script.Inputs.{Input, after_input, region_after}
-use Rattle.pn_serve.specs.Script.Taken.{images_taken, NothingLost, AllHonest, Settled}
-use Rattle.pn_serve.specs.Script.Told.{Told, machine_of, records_of, images_of, TookTheSame, AwaitsCommand, reply_of, last_reply, AreAlike, IsNoOlder}
+use Rattle.pn_serve.specs.Script.Events.{events_in, events_of_input, events_of_end, events_since, images_taken, NothingLost, AllHonest, Settled}
+use Rattle.pn_serve.specs.Script.Written.{Input, after_input, region_after}
+use Rattle.pn_serve.specs.Script.Laws.{Told, machine_of, records_of, images_of, TookTheSame, AwaitsCommand, reply_of, last_reply, AreAlike, IsNoOlder}
 use Rattle.pn_serve.proofs.Happened.{OneLeads, line_leads, end_leads, input_leads}
 
 -- a new region is one

@@ -2,7 +2,7 @@
 use Rattle.std.proofs.Common.{◌≡◌, ℕ, ◌+◌, Option, None, Some, List, [], ◌∷◌, ◌++◌, length, IfSome, inl, inr, refl, sym, ap, ◌∙◌, subst, arith, append-nil, append_assoc}
 use Rattle.std.specs.Prelude.{Result, Ok, Err, ◌⊎◌}
 use Rattle.std.specs.Io.KnownBytes.{Appends}
-use Rattle.pn_line.specs.LinesRead.{PartRead}
+use Rattle.pn_line.specs.Text.{PartRead}
 use Rattle.pn_line.specs.Sent.{AppendsPrefix}
 use Rattle.pn_line.proofs.SentLaws.{AppendsPrefix-more}
 use Rattle.pn_region.specs.Regions.{RegionValue}
@@ -10,23 +10,15 @@ use Rattle.pn_protocol.specs.declared.reply.Reply.{Reply}
 use Rattle.pn_serve.specs.declared.script.Counts.{Counts}
 use Rattle.pn_serve.specs.declared.script.RunFault.{RunFault}
 use Rattle.pn_serve.specs.declared.script.RunFault.TheVariants.{Read, Write, TooManyTurns, Memory}
-use Rattle.pn_serve.specs.Lines.Ends as lines
-use Rattle.pn_serve.specs.Lines.Stopped as stopped
-use Rattle.pn_serve.specs.Lines.Ends.{EndsBy}
-use Rattle.pn_lines.specs.Ends.{Start}
-use Rattle.pn_serve.specs.Lines.Served.{AllAnswer}
-use Rattle.pn_serve.specs.Lines.Replies.{texts_of, refusals_of}
+use Rattle.pn_serve.specs.Lines as lines
+use Rattle.pn_serve.specs.Lines.{EndsBy, AllAnswer, texts_of, refusals_of}
+use Rattle.pn_lines.specs.Driving.{Start}
 use Rattle.pn_serve.specs.Machine.Outcomes.{Outcome, done, Machine, new_machine}
-use Rattle.pn_serve.specs.Machine.Turns.{turn}
-use Rattle.pn_serve.specs.Machine.LastTurns.{end_turn}
-use Rattle.pn_serve.specs.Machine.Answers.{Answers, Concludes}
+use Rattle.pn_serve.specs.Machine.Turns.{turn, end_turn, Answers, Concludes}
 use Rattle.pn_protocol.specs.Reply.Texts.{reply_text, is_refusal}
-use Rattle.pn_serve.specs.Runs.Ends.{RunStart, Ended, Broken, Cut, Exceeded, Ends}
-use Rattle.pn_serve.specs.Runs.Bounds.{lines_within}
-use Rattle.pn_serve.specs.Script.Parts.{parts_of}
-use Rattle.pn_serve.specs.Script.Written.{replies_from, machine_after, refusals_from, replies, refusals, end_of, one_if}
-use Rattle.pn_serve.proofs.Parts.{parts-text}
-use Rattle.pn_serve.proofs.Serving.{parts_read}
+use Rattle.pn_serve.specs.Runs.{RunStart, Ended, Broken, Cut, Exceeded, Ends, lines_within}
+use Rattle.pn_serve.specs.Script.Written.{parts_of, replies_from, machine_after, refusals_from, replies, refusals, end_of, one_if}
+use Rattle.pn_serve.proofs.Serving.{parts-text, parts_read}
 
 -- the outcomes of lines that were answered
 record Outcomes (was : Machine) (texts : List (List ℕ)) (said : List Reply) (now : Machine) : Type 0 where
@@ -103,7 +95,7 @@ module _ (region : RegionValue) (left written : Option (List ℕ)) where
         at_end = is.at_end;
       }
 
-  script_broken : (script : List ℕ) (leaves wrote : Option (List ℕ)) (now : Machine) → stopped.Broken Answers Concludes start script leaves wrote now → Broken begun script leaves wrote
+  script_broken : (script : List ℕ) (leaves wrote : Option (List ℕ)) (now : Machine) → lines.Broken Answers Concludes start script leaves wrote now → Broken begun script leaves wrote
   script_broken script leaves wrote now is =
       let all = outcomes_of (new_machine region) is.lines is.replies now is.made in record {
         lines = is.lines;
@@ -113,7 +105,7 @@ module _ (region : RegionValue) (left written : Option (List ℕ)) where
         wrote = subst (λ (r : List ℕ). Appends written wrote r) (sym all.replied) is.wrote;
       }
 
-  script_exceeded : (script : List ℕ) (leaves wrote : Option (List ℕ)) (now : Machine) → stopped.Exceeded Answers Concludes start script leaves wrote now → Exceeded begun script leaves wrote
+  script_exceeded : (script : List ℕ) (leaves wrote : Option (List ℕ)) (now : Machine) → lines.Exceeded Answers Concludes start script leaves wrote now → Exceeded begun script leaves wrote
   script_exceeded script leaves wrote now is =
       let all = outcomes_of (new_machine region) (lines_within script) is.replies now is.made in record {
         part = is.part;
@@ -158,7 +150,7 @@ module _ (region : RegionValue) (left written : Option (List ℕ)) where
             (ap (λ (l : List ℕ). texts_of said ++ l) is ∙ sym (all_replies script texts part (parts_read leaves read gone) said reached now all reply turned)) sent;
       }
 
-  script_cut : (script : List ℕ) (leaves wrote : Option (List ℕ)) (now : Machine) → stopped.Cut Answers Concludes start script leaves wrote now → Cut begun script leaves wrote
+  script_cut : (script : List ℕ) (leaves wrote : Option (List ℕ)) (now : Machine) → lines.Cut Answers Concludes start script leaves wrote now → Cut begun script leaves wrote
   script_cut script leaves wrote now is =
       cut_last script leaves wrote is.lines is.part is.replies is.reached now is.last is.read (outcomes_of (new_machine region) is.lines is.replies is.reached is.made) is.ended is.prefix
 

@@ -1,24 +1,25 @@
--- What holds of all that streams brought holds of weaker things too; where it is honest, and so are adopted copies, events are.
+-- What holds of all that streams brought holds of weaker things too, and so of how serving ends.
 use Rattle.std.proofs.Common.{ℕ, List, [], ◌∷◌, Option, None, Some, inl, inr}
 use Rattle.std.specs.Prelude.{Result, Ok, Err}
 use Rattle.std.specs.List.{All, AllByRecursion}
 use Rattle.std.proofs.lemmas.List.Elements.{All-contains, All-weaker}
-use Rattle.pn_stream.specs.Brokers.{AreHonest, BrokerRecord, IsHonest}
-use Rattle.pn_stream.specs.Positions.{DeliveryValue}
-use Rattle.pn_region.specs.Events.{RegionEvent, AreHonestEvents}
 use Rattle.pn_tablet.specs.Layouts.{Bounds, IsLayout}
+use Rattle.pn_stream.specs.Brokers.{AreHonest, BrokerRecord, IsHonest, DeliveryValue}
+use Rattle.pn_stream.specs.Batches as batches
+use Rattle.pn_region.specs.Events.{RegionEvent, AreHonestEvents}
 use Rattle.pn_live.specs.LiveRegions.{IsNewLive, LiveRegionValue}
 use Rattle.pn_serve.specs.Control.Commands.{event_by, with_event}
-use Rattle.pn_serve.specs.Server.Events.{BringAll, ReadsBesides, RunsEvents, RunsOn, WriterEvent, gathered, tried, taken, told}
-use Rattle.pn_serve.specs.Server.HonestEvents.{AdoptsHonestly, DidHonestly, TookHonestly, region_events}
-use Rattle.pn_serve.specs.Server.Reading.{AreOfStreams, ReadToEnds, ReadsStreams, RunsRounds}
-use Rattle.pn_serve.specs.Server.Rounds.{RoundInputValue}
-use Rattle.pn_serve.specs.Server.Tries.{StopsAt}
+use Rattle.pn_serve.specs.Server.Events.{BringAll, ReadsBesides, RunsEvents, RunsOn, WriterEvent, gathered, tried, taken, told, AdoptsHonestly, DidHonestly, TookHonestly, region_events, AreOfStreams, ReadToEnds, ReadsStreams, RunsRounds}
+use Rattle.pn_serve.specs.Server.Rounds.{RoundInputValue, StopsAt}
 use Rattle.pn_serve.specs.declared.server.events.ReadingEnd.{ReadingEnd}
-use Rattle.pn_serve.specs.declared.server.fault.ServeFault.{ServeFault}
-use Rattle.pn_serve.specs.declared.server.fault.ServeFault.TheVariants.{Start, Stream, Round, Close, Write}
+use Rattle.pn_serve.specs.declared.server.fault_log.ServeFault.{ServeFault}
+use Rattle.pn_serve.specs.declared.server.fault_log.ServeFault.TheVariants.{Start, Stream, Round, Close, Write}
 use Rattle.pn_serve.specs.declared.server.mailboxes.AtFault.{AtFault}
-use Rattle.pn_serve.specs.declared.server.mailboxes.AtFault.TheVariants.{GoOn}
+use Rattle.pn_serve.specs.declared.server.mailboxes.AtFault.TheVariants.{GoOn, Stop}
+use Rattle.pn_serve.specs.Server.Reports.{names_of}
+use Rattle.pn_serve.specs.Server.Served.{EndsReading, EndsServing, Serves}
+
+-- What holds of all that streams brought holds of weaker things too; where it is honest, and so are adopted copies, events are.
 
 -- ---- weaker things
 
@@ -142,3 +143,31 @@ did_honestly broker bounds at_fault names opened live end ran lawful is_new adop
   done = ran.done;
   honest = honest_events broker ran.events ran.brought adopted;
 }
+
+-- How serving ends, where all that streams brought is such, ends so too where it is of a weaker kind.
+
+module _ (P Q : DeliveryValue → Type 0) (each : (delivery : DeliveryValue) → P delivery → Q delivery) {S : Type 0} (left : S → Option (List ℕ)) (streams : List (batches.Stream S)) where
+  reading_on : (old new : LiveRegionValue) (reading : Result (Unit {0}) ServeFault) → EndsReading P left streams old new reading → EndsReading Q left streams old new reading
+  reading_on old new (Ok done) ends = record { read = rounds_on P Q each {T = Unit {0}} Stop (names_of streams) old new (Ok tt) ends.read; taken = ends.taken }
+  reading_on old new (Err (Stream name)) ends = (
+    ends.0,
+    elim ends.1 [
+      | inl up_to ↦ inl (rounds_on P Q each {T = Unit {0}} Stop (names_of streams) old new (Err (Stream name)) up_to)
+      | inr to_ends ↦ inr (rounds_on P Q each {T = Unit {0}} Stop (names_of streams) old new (Ok tt) to_ends)
+    ],
+  )
+  reading_on old new (Err Round) ends = rounds_on P Q each {T = Unit {0}} Stop (names_of streams) old new (Err Round) ends
+  reading_on old new (Err Start) same = same
+  reading_on old new (Err Close) ends = absurd ends
+  reading_on old new (Err Write) ends = absurd ends
+
+  serves_on : (opened : LiveRegionValue) (reading : Result (Unit {0}) ServeFault) → Serves P left opened streams reading → Serves Q left opened streams reading
+  serves_on opened reading serves = record { closed = serves.closed; ends = reading_on opened serves.closed reading serves.ends }
+
+  pub serving_on : (opened : LiveRegionValue) (result : Result (Unit {0}) ServeFault) → EndsServing P left opened streams result → EndsServing Q left opened streams result
+  serving_on opened (Ok done) serves = serves_on opened (Ok tt) serves
+  serving_on opened (Err Close) serves = serves_on opened (Ok tt) serves
+  serving_on opened (Err Write) serves = serves_on opened (Ok tt) serves
+  serving_on opened (Err Start) serves = serves_on opened (Err Start) serves
+  serving_on opened (Err (Stream name)) serves = serves_on opened (Err (Stream name)) serves
+  serving_on opened (Err Round) serves = serves_on opened (Err Round) serves

@@ -5,19 +5,18 @@ use Rattle.std.proofs.lemmas.Bool.{cases_lt}
 use Rattle.std.proofs.lemmas.Bool.Decides.{nat_tests}
 use Rattle.std.proofs.lemmas.List.{length-map}
 use Rattle.pn_tablet.specs.Layouts.{Bounds, tablet_of}
-use Rattle.pn_tablet.specs.Refusals.{Refuses}
+use Rattle.pn_tablet.specs.Steps.{Refuses}
 use Rattle.pn_scan.specs.Pages.{unless}
 use Rattle.pn_scan.specs.Paging.{Gaps, IsOnPage, IsPreorder, LookMade, Moving, looks_in}
-use Rattle.pn_scan.specs.Reads.{cells_of_keys}
-use Rattle.pn_scan.specs.Views.{is_memory}
-use Rattle.pn_scan.specs.declared.fault.ScanFault.{ScanFault}
-use Rattle.pn_scan.specs.declared.fault.ScanFault.TheVariants.{Memory as look_memory}
+use Rattle.pn_scan.specs.Views.{cells_of_keys, is_memory}
+use Rattle.pn_scan.specs.declared.view.ScanFault.{ScanFault}
+use Rattle.pn_scan.specs.declared.view.ScanFault.TheVariants.{Memory as look_memory}
 use Rattle.pn_scan.proofs.Paging.{gaps_more, page_without_memory, scanned}
 use Rattle.pn_scan.proofs.Scans.{none_refused_front}
-use Rattle.pn_lines.specs.Replies.{Replied}
+use Rattle.pn_lines.specs.Handling.{Replied}
 use Rattle.pn_lines.specs.declared.handler.EndedBy.{EndedBy}
 use Rattle.pn_lines.specs.declared.handler.EndedBy.TheVariants.{Newline, Input}
-use Rattle.pn_live.specs.Getting.{EndsGet, GetWalkValue, IsOnGet}
+use Rattle.pn_live.specs.Lookups.{EndsGet, GetWalkValue, IsOnGet}
 use Rattle.pn_live.specs.Readers.{LiveReaderValue, LooksLive}
 use Rattle.pn_protocol.proofs.CommandLines.{too_long}
 use Rattle.pn_protocol.specs.Command.Lines.{is_too_long, lookup_at}
@@ -27,11 +26,11 @@ use Rattle.pn_protocol.specs.declared.refusal.Refusal.TheVariants.{Memory}
 use Rattle.pn_protocol.specs.declared.reply.Reply.{Reply}
 use Rattle.pn_protocol.specs.declared.reply.Reply.TheVariants.{Refused}
 use Rattle.pn_serve.proofs.GoingOn.{got_by}
-use Rattle.pn_serve.specs.Lines.Handled.{Replies, by_end, replied_of}
+use Rattle.pn_serve.specs.Lines.{Replies, by_end, replied_of}
 use Rattle.pn_serve.specs.Session.Lines.{AnswersLine, EndsLines, LooksUp, Tells}
-use Rattle.pn_serve.specs.Session.Looking.{LooksFor, LooksForLast, LooksOn}
-use Rattle.pn_serve.specs.declared.sessions.going.Going.{Going}
-use Rattle.pn_serve.specs.declared.sessions.going.Going.TheVariants.{Page, Keys, Copy}
+use Rattle.pn_serve.specs.Session.Resuming.{LooksFor, LooksForLast, LooksOn}
+use Rattle.pn_serve.specs.declared.sessions.pending_lookup.PendingLookup.{PendingLookup}
+use Rattle.pn_serve.specs.declared.sessions.pending_lookup.PendingLookup.TheVariants.{Page, Keys, Copy}
 
 ok_is_no_fault : (command : CommandValue) (refusal : Refusal) → Ok command ≡ Err refusal → ⊥
 ok_is_no_fault command refusal is = cc
@@ -74,7 +73,7 @@ module _ (moves : Moving LiveReaderValue) (pre : IsPreorder moves) where
     refused_after : (text : List ℕ) (command : CommandValue) → lookup_at text ≡ Ok command → LooksUp moves was command now (Refused Memory) → After moves (AnswersLine moves) was text now
     refused_after text command said up = record { between = was; moved = pre.stays was; made = inl (subst (λ (r : Result CommandValue Refusal). Tells moves was r now (Refused Memory)) (sym said) up) }
 
-    up_given_up : (text : List ℕ) (command : CommandValue) (going : Going) → lookup_at text ≡ Ok command → LooksOn moves was command between going → After moves (AnswersLine moves) was text now
+    up_given_up : (text : List ℕ) (command : CommandValue) (pending : PendingLookup) → lookup_at text ≡ Ok command → LooksOn moves was command between pending → After moves (AnswersLine moves) was text now
     up_given_up text (scan query) (Page asked walk) said on = by on.1.0 on.1.1 on.1.2
       where
         by : (trace : List (LookMade LiveReaderValue)) → IsOnPage LooksLive was.layout query walk trace → Gaps moves was trace between → After moves (AnswersLine moves) was text now
@@ -97,28 +96,28 @@ module _ (moves : Moving LiveReaderValue) (pre : IsPreorder moves) where
     up_given_up text (get keys) (Copy count) said on = absurd on
     up_given_up text (copy need tablet) (Page asked walk) said on = absurd on
     up_given_up text (copy need tablet) (Keys walk) said on = absurd on
-    up_given_up text (read key wanted) going said on = absurd on
-    up_given_up text (adopt lines) going said on = absurd on
-    up_given_up text (deliver deliveries) going said on = absurd on
-    up_given_up text (lose tablet) going said on = absurd on
-    up_given_up text marks going said on = absurd on
-    up_given_up text (notices since) going said on = absurd on
-    up_given_up text (relayout bounds) going said on = absurd on
-    up_given_up text tablets going said on = absurd on
+    up_given_up text (read key wanted) pending said on = absurd on
+    up_given_up text (adopt lines) pending said on = absurd on
+    up_given_up text (deliver deliveries) pending said on = absurd on
+    up_given_up text (lose tablet) pending said on = absurd on
+    up_given_up text marks pending said on = absurd on
+    up_given_up text (notices since) pending said on = absurd on
+    up_given_up text (relayout bounds) pending said on = absurd on
+    up_given_up text tablets pending said on = absurd on
 
-    line_given_up : (text : List ℕ) (going : Going) → LooksFor moves was text between going → After moves (AnswersLine moves) was text now
-    line_given_up text going looks = up_given_up text looks.command going looks.reads looks.so_far
+    line_given_up : (text : List ℕ) (pending : PendingLookup) → LooksFor moves was text between pending → After moves (AnswersLine moves) was text now
+    line_given_up text pending looks = up_given_up text looks.command pending looks.reads looks.so_far
 
-    last_given_up : (text : List ℕ) (going : Going) → LooksForLast moves was text between going → After moves (EndsLines moves) was text now
-    last_given_up [] going looks = absurd looks
-    last_given_up (b ∷ text) going looks = let after = line_given_up (b ∷ text) going looks in record { between = after.between; moved = after.moved; made = after.made }
+    last_given_up : (text : List ℕ) (pending : PendingLookup) → LooksForLast moves was text between pending → After moves (EndsLines moves) was text now
+    last_given_up [] pending looks = absurd looks
+    last_given_up (b ∷ text) pending looks = let after = line_given_up (b ∷ text) pending looks in record { between = after.between; moved = after.moved; made = after.made }
 
     -- the line is left refused
-    pub given_up : (ended : EndedBy) (text : List ℕ) (going : Going) → by_end (LooksFor moves) (LooksForLast moves) was ended text between going
+    pub given_up : (ended : EndedBy) (text : List ℕ) (pending : PendingLookup) → by_end (LooksFor moves) (LooksForLast moves) was ended text between pending
         → (replied : Replied) × ((first : LiveReaderValue) × moves was first × Replies (AnswersLine moves) (EndsLines moves) first ended text now replied)
-    given_up Newline text going looks =
-        let after = line_given_up text going looks in
+    given_up Newline text pending looks =
+        let after = line_given_up text pending looks in
         (replied_of (Refused Memory), (after.between, after.moved, record { reply = Refused Memory; shown = refl; made = after.made }))
-    given_up Input text going looks =
-        let after = last_given_up text going looks in
+    given_up Input text pending looks =
+        let after = last_given_up text pending looks in
         (replied_of (Refused Memory), (after.between, after.moved, record { reply = Refused Memory; shown = refl; made = after.made }))

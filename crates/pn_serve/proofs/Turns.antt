@@ -4,22 +4,21 @@ use Rattle.std.proofs.lemmas.Bool.{cases_lt}
 use Rattle.std.proofs.lemmas.Bool.Decides.{nat_tests}
 use Rattle.std.specs.Prelude.{◌≢◌, Result, Ok, Err, Vec, MatchResult}
 use Rattle.serde_json.specs.Data.{Data}
-use Rattle.pn_scan.specs.Reads.{AnswersAfter}
-use Rattle.pn_scan.specs.declared.fault.ScanFault.{ScanFault}
-use Rattle.pn_scan.specs.declared.fault.ScanFault.TheVariants as scan
+use Rattle.pn_scan.specs.Views.{AnswersAfter}
+use Rattle.pn_scan.specs.declared.view.ScanFault.{ScanFault}
+use Rattle.pn_scan.specs.declared.view.ScanFault.TheVariants as scan
 use Rattle.std.specs.declared.alloc.Global.{Global}
 use Rattle.pn_join.specs.Marks.{Positions}
-use Rattle.pn_stream.specs.Positions.{DeliveryValue}
+use Rattle.pn_stream.specs.Brokers.{DeliveryValue}
 use Rattle.pn_tablet.specs.Tablets.{TabletStateValue}
 use Rattle.pn_tablet.specs.declared.state.TabletOp.{TabletOp}
 use Rattle.pn_apply.specs.Applying.{AreOldOrStepped}
-use Rattle.pn_region.specs.Marking.{is_memory, new_marks}
-use Rattle.pn_region.specs.Logged.{LoggedRegion, refused_log, with_break}
+use Rattle.pn_region.specs.Rounds.{is_memory, new_marks, joins, IsHalfTaken, Leaves, round as taken_round}
+use Rattle.pn_region.specs.Log.{LoggedRegion, refused_log, with_break}
 use Rattle.pn_region.specs.Regions.{RegionValue}
-use Rattle.pn_region.specs.Rounds.{joins, IsHalfTaken, Leaves, round as taken_round}
 use Rattle.pn_region.specs.declared.fault.RoundFault.{RoundFault}
 use Rattle.pn_region.specs.declared.fault.RoundFault.TheVariants as round_fault
-use Rattle.pn_tablet.specs.Refusals.{Refuses}
+use Rattle.pn_tablet.specs.Steps.{Refuses}
 use Rattle.pn_protocol.specs.declared.reply.Reply.{Reply}
 use Rattle.pn_protocol.specs.declared.reply.Reply.TheVariants.{Adopted, Changed, Copy, Lost, Page, Record, Records, Relaid, Silent, Stopping, Text, Refused, NotTaken}
 use Rattle.pn_protocol.specs.declared.refusal.Refusal.{Refusal}
@@ -28,16 +27,13 @@ use Rattle.pn_protocol.specs.Command.Meaning.{CommandValue, deliver}
 use Rattle.pn_protocol.specs.Command.Lines.{command_at, is_too_long}
 use Rattle.pn_protocol.proofs.CommandLines.{too_long}
 use Rattle.pn_serve.specs.Machine.Outcomes.{Outcome, Machine, done, line, call, round, awaits_command, Turn, machine_over, refusal_turn, reply_turn}
-use Rattle.pn_serve.specs.Machine.PartRounds.{some_after, after_part_with_marks}
+use Rattle.pn_serve.specs.Machine.Turns.{some_after, after_part_with_marks, command_turn, turn_of, outcome_at, turn, IsReadUnless, Turned, TurnedBy, AnswersBy, Obeys}
 use Rattle.pn_serve.specs.Machine.Doing.{delivery_turn, lookup_turn}
-use Rattle.pn_serve.specs.Machine.Turns.{command_turn, turn_of, outcome_at, turn}
-use Rattle.pn_serve.specs.Machine.Answers.{IsReadUnless, Turned, TurnedBy, AnswersBy, Obeys}
-use Rattle.pn_protocol.specs.Reply.Answers.{ShowsFound}
-use Rattle.pn_protocol.specs.Reply.Refusals.{Tells, Refuses as RefusesBy}
-use Rattle.pn_protocol.specs.Reply.Faults.{lookup_fault_data, round_fault_data}
+use Rattle.pn_protocol.specs.Reply.Texts.{ShowsFound}
+use Rattle.pn_protocol.specs.Reply.Faults.{Tells, Refuses as RefusesBy, lookup_fault_data, round_fault_data}
 use Rattle.pn_protocol.specs.declared.reply.refusals.CommandFault.TheVariants as command_fault
 use Rattle.pn_json.specs.Answers.{ShowsUnless}
-use Rattle.pn_json.specs.Lines.{line_of}
+use Rattle.pn_json.specs.Tokens.{line_of}
 
 -- what a reply comes to that tells this, or that memory ran out
 pub told_or_out : (P : Reply → Type 0) (right : Type 0) (said : Data) (reply : Reply) → ((text : Vec ℕ Global) → right → text.items ≡ line_of said → P (NotTaken text)) → P (Refused Memory) → Tells right said reply → P reply

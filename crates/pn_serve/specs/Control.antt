@@ -1,11 +1,5 @@
 -- Control sessions.
-pub mod Answers
-pub mod Coding
 pub mod Commands
-pub mod Ends
-pub mod Handling
 pub mod Held
 pub mod Lines
 pub mod Steps
-pub mod Stops
-pub mod TabletCounts

@@ -7,4 +7,3 @@ pub mod Runs
 pub mod Script
 pub mod Server
 pub mod Session
-pub mod Settings

@@ -4,12 +4,10 @@ ghost use Rattle.std.specs.Prelude.{◌≡◌, ◌≤◌, vec_len, IfErr, IfOk};
 ghost use Rattle.pn_live.specs.Prelude.{tablets_in};
 ghost use Rattle.pn_live.specs.declared.region.opening.TheConstants.{MAX_READERS};
 ghost use Rattle.pn_serve.specs.Copies.{StartsOrdered, StopsOpen};
-ghost use Rattle.pn_serve.specs.Server.Sessions.{AllRead};
+ghost use Rattle.pn_serve.specs.Server.Events.{AllRead};
 
 mod fault;
-mod fronts;
 mod reading;
-mod recutting;
 mod starting;
 mod texts;
 
@@ -19,7 +17,7 @@ pub use fault::CopiesFault;
 use pn_live::LiveRegion;
 use pn_tablet::{TabletCopy, layout_of_copies};
 pub use reading::CopiesReader;
-pub use recutting::recut_copies;
+pub use starting::recut_copies;
 use std::alloc::Global;
 use std::sync::Wait;
 

@@ -1,30 +1,52 @@
-//! Runs the commands of lines over a region.
+//! Runs the commands of lines, which are read, over a region.
 
-ghost use Rattle.std.specs.Prelude.{◌≤◌};
+ghost use Rattle.std.specs.Prelude.{◌≡◌, false, IsErrOf, ◌≤◌};
+ghost use Rattle.pn_json.specs.Prelude.{ShowsUnless};
+ghost use Rattle.pn_protocol.specs.Prelude.{command_at, is_too_long, command_value, deliver as asking};
 ghost use Rattle.pn_apply.specs.declared.reducing.TheConstants.{MAX_WORKERS};
-ghost use Rattle.pn_protocol.specs.Prelude.{command_value, deliver as asking};
-ghost use Rattle.pn_serve.specs.Machine.Modes.{IsAnswer, with_mode};
-ghost use Rattle.pn_serve.specs.Machine.Outcomes.{machine_over};
-ghost use Rattle.pn_serve.specs.Machine.Answers.{AnswersBy, ConcludesBy, Obeys};
-ghost use Rattle.pn_serve.specs.Machine.Ways.{HandlesTo, LastsBy};
+ghost use Rattle.pn_serve.specs.Machine.Outcomes.{IsAnswer, with_mode, machine_over};
+ghost use Rattle.pn_serve.specs.Machine.Turns.{AnswersBy, ConcludesBy, Obeys, HandlesTo, LastsBy};
 
 pub(crate) mod adoption;
-pub(crate) mod command_reader;
 pub(crate) mod line_answers;
 pub(crate) mod lookups;
 pub(crate) mod script_handler;
 pub(crate) mod tablets;
 
 use crate::machine::adoption::{AnnouncedText, adopt, take_last_part, take_line};
-use crate::machine::command_reader::CommandReader;
 use crate::machine::lookups::{get, look_up_notices, read, scan};
 use crate::machine::tablets::{copy_tablet, lose_tablet, relayout};
 use pn_apply::Open;
-use pn_protocol::{Command, CommandFault, Reply, answer_text, marks_reply, refuse, tablets_reply};
+use pn_protocol::{
+    Command, CommandFault, Refusal, Reply, answer_text, marks_reply, refuse, tablets_reply,
+};
 use pn_region::Region;
 use pn_stream::Delivery;
 use std::alloc::Global;
 use std::thread::Threads;
+
+/// Reads lines as commands. By a reader that never runs out of memory it can be said that a loss does not either.
+pub(crate) trait CommandReader {
+    // What holds if memory can run out while a line is read.
+    ghost may_run_out: { Type 0 };
+
+    /// Reads a line, or answers its first fault.
+    fn command_of(alloc: Global, line: &[u8]) -> Result<Command, Refusal>
+        ensures exact { ShowsUnless Refusal.Memory command_value result (command_at line.now) }
+        ensures short { IsErrOf result Refusal.Memory → is_too_long line.now ≡ false }
+        ensures memory { IsErrOf result Refusal.Memory → may_run_out };
+}
+
+/// Reads JSON, which takes memory.
+pub(crate) struct Json;
+
+impl CommandReader for Json {
+    ghost may_run_out = { Unit {0} };
+
+    fn command_of(alloc: Global, line: &[u8]) -> Result<Command, Refusal> {
+        pn_protocol::command_of(alloc, line)
+    }
+}
 
 /// The reply to a line, and the lines that it announces.
 pub(crate) type ScriptAnswer = (Reply, Option<AnnouncedText>);

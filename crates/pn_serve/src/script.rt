@@ -1,18 +1,17 @@
 //! Scripts: each line is read and answered, and its reply is written.
 
 ghost use Rattle.std.specs.Prelude.{◌≡◌, ◌≢◌, ◌+◌, ◌≤◌, IfOk, IfErr, OnOk, IsErrOf};
-ghost use Rattle.pn_lines.specs.Ends.{start_at};
+ghost use Rattle.pn_lines.specs.Driving.{start_at};
 ghost use Rattle.pn_region.specs.Prelude.{new_region};
-ghost use Rattle.pn_serve.specs.declared.script.RunFault.TheVariants.{Memory};
-ghost use Rattle.pn_serve.specs.Lines.Running.{HasRun, run_ended};
-ghost use Rattle.pn_serve.specs.Lines.Waiting.{HandsOn, looks_of_input};
+ghost use Rattle.pn_serve.specs.Lines.{HasRun, run_ended, Flushes, polls_of_input};
 ghost use Rattle.pn_serve.specs.Machine.Outcomes.{new_machine};
-ghost use Rattle.pn_serve.specs.Runs.Ends.{Ends, run_start};
+ghost use Rattle.pn_serve.specs.Runs.{Ends, run_start};
 
 use crate::Settings;
 use crate::machine::script_handler::ScriptHandler;
 use pn_line::{Sink, Source};
 use pn_lines::{LineBuffers, LineHandler, LinesFault};
+use pn_region::Region;
 use std::alloc::Global;
 use std::mem;
 use std::thread::Threads;
@@ -46,6 +45,25 @@ pub enum RunFault {
     Memory,
 }
 
+/// A script that was answered as far as it could be. The memory of its region is freed with it.
+#[derive(Drop)]
+pub struct FinishedRun {
+    /// How many lines were answered, or why not all were.
+    pub ended: Result<Counts, RunFault>,
+    region: Option<Region>,
+}
+
+impl FinishedRun {
+    /// How it ended. For a process that ends afterwards: the region's memory goes with the process and is not freed.
+    pub fn leave_memory(self) -> Result<Counts, RunFault>
+        ensures { result ≡ self.ended }
+    {
+        let FinishedRun { ended, region } = self;
+        mem::forget(region);
+        ended
+    }
+}
+
 /// Answers each line of a script with one reply, over a new region. Replies are written before it waits for more
 /// input.
 pub fn run<R: Threads + Sync, S: Source, W: Sink>(
@@ -59,37 +77,40 @@ pub fn run<R: Threads + Sync, S: Source, W: Sink>(
     ensures read { IsErrOf result RunFault.Read → S.may_fail }
     ensures write { IsErrOf result RunFault.Write → W.may_fail }
     ensures few { IfOk result (λ counts. counts.lines ≤ MAX_LINES) }
-    ensures out { HandsOn result (W.is_handed_on output.new) }
-    ensures looks { S.looks input.new ≤ S.looks input.old + looks_of_input }
+    ensures out { Flushes result (W.is_flushed output.new) }
+    ensures polls { S.polls input.new ≤ S.polls input.old + polls_of_input }
     ensures end { OnOk result S.may_end }
-    ensures unread { IsErrOf result RunFault.Memory → S.looks input.new ≡ S.looks input.old }
+    ensures unread { IsErrOf result RunFault.Memory → S.polls input.new ≡ S.polls input.old }
 {
-    let (mut buffers, mut machine) = start_script(rt, alloc, settings)?;
-    answer_lines(&mut machine, &mut buffers, input, output)
+    run_script(rt, alloc, input, output, settings).ended
 }
 
-/// Answers a script as [`run`] does, for a process that ends afterwards: the region's memory goes with the process and is not
-/// freed.
-pub fn run_to_exit<R: Threads + Sync, S: Source, W: Sink>(
+/// Answers a script as [`run`] does, and leaves its region to the caller.
+pub fn run_script<R: Threads + Sync, S: Source, W: Sink>(
     rt: &R,
     alloc: Global,
     input: &mut S,
     output: &mut W,
     settings: Settings,
-) -> Result<Counts, RunFault>
-    ensures ends { Ends (run_start settings (S.left input.old) (W.contents output.old)) (S.left input.new) (W.contents output.new) result }
-    ensures read { IsErrOf result RunFault.Read → S.may_fail }
-    ensures write { IsErrOf result RunFault.Write → W.may_fail }
-    ensures few { IfOk result (λ counts. counts.lines ≤ MAX_LINES) }
-    ensures out { HandsOn result (W.is_handed_on output.new) }
-    ensures looks { S.looks input.new ≤ S.looks input.old + looks_of_input }
-    ensures end { OnOk result S.may_end }
-    ensures unread { IsErrOf result RunFault.Memory → S.looks input.new ≡ S.looks input.old }
+) -> FinishedRun
+    ensures ends { Ends (run_start settings (S.left input.old) (W.contents output.old)) (S.left input.new) (W.contents output.new) result.ended }
+    ensures read { IsErrOf result.ended RunFault.Read → S.may_fail }
+    ensures write { IsErrOf result.ended RunFault.Write → W.may_fail }
+    ensures few { IfOk result.ended (λ counts. counts.lines ≤ MAX_LINES) }
+    ensures out { Flushes result.ended (W.is_flushed output.new) }
+    ensures polls { S.polls input.new ≤ S.polls input.old + polls_of_input }
+    ensures end { OnOk result.ended S.may_end }
+    ensures unread { IsErrOf result.ended RunFault.Memory → S.polls input.new ≡ S.polls input.old }
 {
-    let (mut buffers, mut kept) = start_script(rt, alloc, settings)?;
-    let ended = answer_lines(&mut kept, &mut buffers, input, output);
-    mem::forget(kept);
-    ended
+    let Ok((mut buffers, mut machine)) = start_script(rt, alloc, settings) else {
+        return FinishedRun {
+            ended: Err(RunFault::Memory),
+            region: None,
+        };
+    };
+    let ended = answer_lines(&mut machine, &mut buffers, input, output);
+    let region = Some(machine.into_region());
+    FinishedRun { ended, region }
 }
 
 // The buffers and the new region of a script.
@@ -98,8 +119,7 @@ fn start_script<'a, R: Threads + Sync>(
     alloc: Global,
     settings: Settings,
 ) -> Result<(LineBuffers, ScriptHandler<'a, R>), RunFault>
-    ensures machine { IfOk result (λ begun. begun.1 ≡ new_machine (new_region settings.layout)) }
-    ensures fault { IfErr result (λ fault. fault ≡ Memory) }
+    ensures { IfOk result (λ begun. begun.1 ≡ new_machine (new_region settings.layout)) }
 {
     match (
         LineBuffers::new(alloc),
@@ -117,15 +137,14 @@ pub(crate) fn answer_lines<M: LineHandler, S: Source, W: Sink>(
     input: &mut S,
     output: &mut W,
 ) -> Result<Counts, RunFault>
-    requires ready { M.ready }
-    requires unclosed { (state : M) → M.handling.closed state → ⊥ }
+    requires { M.ready × ((state : M) → M.handling.closed state → ⊥) }
     ensures ends { HasRun M.handling (start_at machine.old (S.left input.old) (W.contents output.old))
         (S.left input.new) (W.contents output.new) machine.new result }
     ensures faults { (IsErrOf result RunFault.Read → S.may_fail) × (IsErrOf result RunFault.Write → W.may_fail) }
     ensures kept { M.keeps machine.old machine.new }
     ensures few { IfOk result (λ counts. counts.lines ≤ MAX_LINES) }
-    ensures out { HandsOn result (W.is_handed_on output.new) }
-    ensures looks { S.looks input.new ≤ S.looks input.old + looks_of_input }
+    ensures out { Flushes result (W.is_flushed output.new) }
+    ensures polls { S.polls input.new ≤ S.polls input.old + polls_of_input }
     ensures end { OnOk result S.may_end }
     ensures begun { IfErr result (λ fault. fault ≢ RunFault.Memory) }
 {

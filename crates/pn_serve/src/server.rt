@@ -1,85 +1,70 @@
 //! Reads streams into a live region while sessions are answered from it.
 
-ghost use Rattle.std.specs.Prelude.{◌≡◌, ◌≢◌, ◌≤◌, map, vec_len, All, Ok, Err};
-ghost use Rattle.std.specs.Prelude.{IfOk, IfErr, OnOk, IsErrOf, IsTrue, IsFalse, MatchResult};
+ghost use Rattle.std.specs.Prelude.{◌≡◌, ◌≢◌, ◌≤◌, map, vec_len, All, Ok, Err, IfOk, IfErr, OnOk, IsErrOf, IsTrue, IsFalse, MatchResult};
 ghost use Rattle.std.specs.List.{AllByRecursion};
 ghost use Rattle.std.specs.Io.KnownBytes.{Appends, Keeps};
 ghost use Rattle.pn_apply.specs.declared.reducing.TheConstants.{MAX_WORKERS};
 ghost use Rattle.pn_line.specs.Prelude.{AppendsPrefix};
-ghost use Rattle.pn_live.specs.Closing.{AllKnowPublished};
+ghost use Rattle.pn_live.specs.Readers.{AllKnowPublished};
 ghost use Rattle.pn_live.specs.LiveRegions.{core};
 ghost use Rattle.pn_live.specs.Prelude.{IsNewLive, tablets_in};
 ghost use Rattle.pn_live.specs.declared.region.opening.TheConstants.{MAX_READERS};
-ghost use Rattle.pn_serve.specs.declared.server.limits.TheConstants.{MAX_SESSIONS};
-ghost use Rattle.pn_serve.specs.Server.Faults.{NamesOne, names_of};
-ghost use Rattle.pn_serve.specs.Server.Honest.{AreHonestWriters};
-ghost use Rattle.pn_serve.specs.Server.Reading.{RunsRounds};
-ghost use Rattle.pn_serve.specs.Server.Sent.{IsOfWriter, IsSent};
-ghost use Rattle.pn_serve.specs.Server.Served.{EndsReading, EndsRegion, EndsServing};
-ghost use Rattle.pn_serve.specs.Server.Sessions.{AllRead};
-ghost use Rattle.pn_serve.specs.Server.Whole.{IsTakenWhole};
+ghost use Rattle.pn_serve.specs.declared.server.session_threads.TheConstants.{MAX_SESSIONS};
+ghost use Rattle.pn_serve.specs.Server.Reports.{NamesOne, names_of};
+ghost use Rattle.pn_serve.specs.Server.Publishers.{AreHonestPublishers, IsOfPublisher, IsSent, IsTakenWhole};
+ghost use Rattle.pn_serve.specs.Server.Events.{RunsRounds, AllRead};
+ghost use Rattle.pn_serve.specs.Server.Served.{EndsReading, EndsServing, EndsServingNew};
 ghost use Rattle.pn_stream.specs.Brokers.{IsHonest};
 ghost use Rattle.pn_stream.specs.Prelude.{BrokerRecord};
 ghost use Rattle.pn_protocol.specs.Prelude.{served_line};
 
-mod counter;
 mod ending_line;
 mod events;
-mod fault;
 mod fault_log;
 mod held_report;
-mod kept_report;
-mod limits;
 pub(crate) mod mailboxes;
 mod messages;
-mod opened;
-mod reporter;
+mod publisher_input;
+pub(crate) mod publishers;
 mod reporting;
 mod reports;
 mod rounds;
 mod session_threads;
 mod shown_mark;
-mod stream_path;
 mod stream_threads;
 mod streams;
-pub(crate) mod texts;
 mod times;
 mod tries;
 pub(crate) mod wakeup;
-mod writer_input;
-mod writers;
 
 use crate::Settings;
-use crate::server::ending_line::tell_served;
+use crate::server::ending_line::write_ending;
 use crate::server::events::run_rounds;
 use crate::server::mailboxes::StreamMailboxes;
+use crate::server::publisher_input::workers_of_each;
 use crate::server::session_threads::{StartedSessions, start_sessions};
 use crate::server::stream_threads::{StartedStreams, StreamThread, join_streams, start_streams};
-use crate::server::writer_input::workers_of_each;
-pub use counter::Counter;
 pub use events::{ReadingEnd, take_commands, take_commands_for};
-pub use fault::ServeFault;
-pub use fault_log::{FaultLog, StreamFailure};
-pub use limits::MAX_SESSIONS;
-pub use opened::serve_from;
-use opened::serve_opened;
+pub use fault_log::{FaultLog, ServeFault, StreamFailure};
 use pn_join::{Marks, NoMemory};
 use pn_line::{Sink, Source};
 use pn_live::{LiveReader, LiveRegion};
 use pn_region::Region;
 use pn_stream::StreamReader;
 use pn_tablet::Layout;
-pub use session_threads::{Acceptor, ComesBack, SessionThread, join_sessions};
+pub use publishers::{
+    AnyPublishers, NextPublisher, Origin, PublisherEnd, Sending, Stream, StreamPath,
+};
+pub use session_threads::{
+    Acceptor, ComesBack, MAX_CONTROLS, MAX_SESSIONS, SESSION_CAPACITY, SessionThread, join_sessions,
+};
 pub use shown_mark::ShownMark;
 use std::alloc::Global;
 use std::sync::Wait;
 use std::thread::Threads;
 use std::time::Clock;
-pub use stream_path::StreamPath;
 pub use streams::{Watchers, read_streams};
-pub use texts::{AnyWriters, Sending};
-pub use times::TimeCounters;
-pub use writers::{NextWriter, Origin, Stream, WriterEnd};
+pub use times::{Counter, TimeCounters};
 
 /// A live region and its readers. It is not `Drop`: end it by `close_region`.
 pub struct OpenedRegion {
@@ -87,11 +72,8 @@ pub struct OpenedRegion {
     pub readers: Vec<LiveReader>,
 }
 
-/// Reads streams into a new live region, at most 1,000 messages of each a round, while it answers 1 to 16 sessions.
-/// Then it writes `served N`.
-///
-/// After a fault of a stream or a round, the sessions are still served. A session's fault ends that session alone.
-/// Faults come in the order of `ServeFault`.
+/// Serves as [`serve_opened`] does, over a new live region, with 1 to 16 sessions. Where none can be opened it ends with
+/// `Start`.
 pub fn serve<R, L, S, W, M>(
     rt: &R,
     alloc: Global,
@@ -108,44 +90,64 @@ where
     W: Sink,
     M: Sending + Send + 'static,
     requires sessions { (1 ≤ sessions) × (sessions ≤ MAX_SESSIONS) }
-    requires sent { M.known → All (IsOfWriter M.sends S.left) streams.items }
-    ensures ends { EndsServing (IsSent M.known M.sends) S.left settings.layout streams.items result }
-    ensures honest { (broker : BrokerRecord) → M.known → AreHonestWriters broker M.sends
-        → EndsServing (IsHonest broker) S.left settings.layout streams.items result }
+    requires sent { M.known → All (IsOfPublisher M.sends S.left) streams.items }
+    ensures ends { EndsServingNew (IsSent M.known M.sends) S.left settings.layout streams.items result }
+    ensures honest { (broker : BrokerRecord) → M.known → AreHonestPublishers broker M.sends
+        → EndsServingNew (IsHonest broker) S.left settings.layout streams.items result }
     ensures served { OnOk result (Appends (W.contents out.old) (W.contents out.new) (served_line sessions)) }
     ensures silent { IfErr result (λ fault. fault ≢ ServeFault.Write → Keeps (W.contents out.old) (W.contents out.new)) }
     ensures part { IsErrOf result ServeFault.Write → AppendsPrefix (W.contents out.old) (W.contents out.new) (served_line sessions) }
     ensures write { IsErrOf result ServeFault.Write → W.may_fail }
-    ensures handed_on { OnOk result (W.is_handed_on out.new) }
+    ensures flushed { OnOk result (W.is_flushed out.new) }
 {
-    let served = serve_region::<R, L, S, M>(rt, alloc, settings, listener, sessions, streams);
-    tell_served(served, out)
+    let (layout, workers) = settings.into_parts();
+    match open_region(rt, alloc, layout, sessions) {
+        Ok(opened) => serve_opened::<R, L, S, W, M>(
+            rt, alloc, listener, opened, workers, streams, out,
+        ),
+        Err(fault) => Err(fault),
+    }
 }
 
-// Serves over a new live region, and closes it. Answers how many readers came back.
-fn serve_region<R, L, S, M>(
+/// Reads streams into a live region that is open, at most 1,000 messages of each a round, while it answers one session with
+/// each of its readers. Then it closes the region, and writes `served N`.
+///
+/// After a fault of a stream or a round, the sessions are still served. A session's fault ends that session alone.
+/// Faults come in the order of `ServeFault`.
+pub fn serve_opened<R, L, S, W, M>(
     rt: &R,
     alloc: Global,
-    settings: Settings,
     listener: &L,
-    sessions: usize,
+    opened: OpenedRegion,
+    workers: usize,
     streams: Vec<StreamReader<S>>,
-) -> Result<usize, ServeFault>
+    out: &mut W,
+) -> Result<(), ServeFault>
 where
     R: Threads + Wait + Clock + Sync + Copy + Send + 'static,
     L: Acceptor + Drop + Send + 'static,
     S: Source + Drop + Send + 'static,
+    W: Sink,
     M: Sending + Send + 'static,
-    requires sessions { (1 ≤ sessions) × (sessions ≤ MAX_SESSIONS) }
-    requires sent { M.known → All (IsOfWriter M.sends S.left) streams.items }
-    ensures ends { EndsRegion (IsSent M.known M.sends) S.left settings.layout streams.items result }
-    ensures fault { IfErr result (λ fault. fault ≢ ServeFault.Write) }
-    ensures count { IfOk result (λ count. count ≡ sessions) }
+    requires workers { (1 ≤ workers) × (workers ≤ MAX_WORKERS) }
+    requires own { AllRead (tablets_in opened.live) opened.readers.items }
+    requires sent { M.known → All (IsOfPublisher M.sends S.left) streams.items }
+    ensures ends { EndsServing (IsSent M.known M.sends) S.left opened.live streams.items result }
+    ensures honest { (broker : BrokerRecord) → M.known → AreHonestPublishers broker M.sends
+        → EndsServing (IsHonest broker) S.left opened.live streams.items result }
+    ensures served { OnOk result (Appends (W.contents out.old) (W.contents out.new) (served_line (vec_len opened.readers))) }
+    ensures silent { IfErr result (λ fault. fault ≢ ServeFault.Write → Keeps (W.contents out.old) (W.contents out.new)) }
+    ensures part { IsErrOf result ServeFault.Write → AppendsPrefix (W.contents out.old) (W.contents out.new) (served_line (vec_len opened.readers)) }
+    ensures write { IsErrOf result ServeFault.Write → W.may_fail }
+    ensures flushed { OnOk result (W.is_flushed out.new) }
 {
-    let Settings { layout, workers } = settings;
-    let (live, readers) = open_region(rt, alloc, layout, sessions)?;
-    let opened = OpenedRegion { live, readers };
-    serve_opened::<R, L, S, M>(rt, alloc, listener, opened, workers, streams)
+    let mut region = opened;
+    let read = serve_streams::<R, L, S, M>(rt, alloc, listener, &mut region, workers, streams);
+    let OpenedRegion { live, readers } = region;
+    let count = readers.len();
+    let closed = close_region(rt, live, readers);
+    let served = conclude(read, closed, count);
+    write_ending(served, out)
 }
 
 /// Opens a live region with this many readers.
@@ -154,15 +156,15 @@ pub fn open_region<R: Wait>(
     alloc: Global,
     layout: Layout,
     readers: usize,
-) -> Result<(LiveRegion, Vec<LiveReader>), ServeFault>
+) -> Result<OpenedRegion, ServeFault>
     requires { (1 ≤ readers) × (readers ≤ MAX_READERS) }
-    ensures is_new { IfOk result (λ opened. IsNewLive layout opened.0) }
-    ensures own { IfOk result (λ opened. AllRead (tablets_in opened.0) opened.1.items) }
-    ensures count { IfOk result (λ opened. vec_len opened.1 ≡ readers) }
+    ensures is_new { IfOk result (λ opened. IsNewLive layout opened.live) }
+    ensures own { IfOk result (λ opened. AllRead (tablets_in opened.live) opened.readers.items) }
+    ensures count { IfOk result (λ opened. vec_len opened.readers ≡ readers) }
     ensures fault { IfErr result (λ fault. fault ≡ ServeFault.Start) }
 {
     match LiveRegion::open(rt, alloc, layout, readers) {
-        Ok(opened) => Ok(opened),
+        Ok((live, readers)) => Ok(OpenedRegion { live, readers }),
         Err(_) => Err(ServeFault::Start),
     }
 }
@@ -214,7 +216,7 @@ where
     M: Sending + Send + 'static,
     requires workers { (1 ≤ workers) × (workers ≤ MAX_WORKERS) }
     requires own { AllRead (tablets_in region.old.live) region.old.readers.items }
-    requires sent { M.known → All (IsOfWriter M.sends S.left) streams.items }
+    requires sent { M.known → All (IsOfPublisher M.sends S.left) streams.items }
     ensures own { AllRead (tablets_in region.new.live) region.new.readers.items }
     ensures all { OnOk result (vec_len region.new.readers ≡ vec_len region.old.readers) }
     ensures ends { EndsReading (IsSent M.known M.sends) S.left streams.items region.old.live region.new.live result }

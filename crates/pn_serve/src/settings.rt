@@ -19,7 +19,7 @@ impl Model for Settings {
     ghost use Rattle.std.specs.Prelude.{◌≤◌};
     ghost use Rattle.pn_tablet.specs.Prelude.{IsLayout};
     ghost use Rattle.pn_apply.specs.declared.reducing.TheConstants.{MAX_WORKERS};
-    ghost use Rattle.pn_serve.specs.Settings.{SettingsValue};
+    ghost use Rattle.pn_serve.specs.Runs.{SettingsValue};
 
     ghost Value = { SettingsValue };
 

@@ -3,7 +3,7 @@ use denote.Param.Send.{IsSend, IsSync, sendable}
 use denote.Param.SendFields.{declared_send}
 use denote.Struct.Record.{declared}
 use Rattle.std.proofs.Crossing.{crosses}
-use Rattle.pn_live.proofs.Crossing.Readers.{reader_send}
+use Rattle.pn_live.proofs.Crossing.{reader_send}
 use Rattle.pn_serve.proofs.Crossing.{controls_send, controls_sync, counter_send, counter_sync, faults_send, faults_sync, name_send, name_sync, shown_mark_send, shown_mark_sync}
 use Rattle.pn_stay.specs.contracts.acceptor.SocketAcceptor as acceptor
 use Rattle.pn_stay.specs.contracts.socket_mailbox.SocketMailbox as mailbox
@@ -19,15 +19,15 @@ use Rattle.pn_stay.specs.contracts.server.control_threads.ControlThread as contr
 use Rattle.pn_stay.specs.contracts.seldom.Seldom as seldom
 use Rattle.pn_stay.specs.contracts.streams.fifo_poll.FifoPoll as fifo_poll
 use Rattle.pn_stay.specs.contracts.streams.listener.StreamListener as stream_listener
-use Rattle.pn_stay.specs.contracts.streams.notes.StreamTeller as teller
-use Rattle.pn_stay.specs.contracts.streams.sockets.SocketWriters as socket_writers
+use Rattle.pn_stay.specs.contracts.streams.notes.StreamMessenger as messenger
+use Rattle.pn_stay.specs.contracts.streams.sockets.SocketPublishers as socket_publishers
 use Rattle.pn_stay.specs.contracts.streams.status.StreamStatus as status
 use Rattle.pn_stay.specs.contracts.streams.turns.Turns as turns
-use Rattle.pn_stay.specs.contracts.streams.writer.StreamPositions as positions
+use Rattle.pn_stay.specs.contracts.streams.publisher.StreamPositions as positions
 use Rattle.pn_stay.specs.contracts.messages.Messages as messages
 use Rattle.pn_stay.specs.contracts.acceptor.AcceptNotes as notes
 use Rattle.pn_stay.specs.contracts.server.accepting.AcceptThread as accept
-use Rattle.pn_stay.specs.contracts.connection_limit.ConnectionLimit as limit
+use Rattle.pn_stay.specs.contracts.descriptors.ConnectionLimit as limit
 use Rattle.pn_stay.specs.contracts.listener.Listener as listener
 
 pub input_send : IsSend input.the_row
@@ -43,10 +43,34 @@ pub status_sync : IsSync status.the_row
 status_sync = search (sendable, crosses) depth 40 fits 20000
 
 stream_send : IsSend stream.the_row
-stream_send = search (sendable, crosses, name_send, counter_send, counter_sync, shown_mark_send, shown_mark_sync, input_send, input_sync, status_send, status_sync) depth 40 fits 20000
+stream_send = search (
+  sendable,
+  crosses,
+  name_send,
+  counter_send,
+  counter_sync,
+  shown_mark_send,
+  shown_mark_sync,
+  input_send,
+  input_sync,
+  status_send,
+  status_sync,
+) depth 40 fits 20000
 
 stream_sync : IsSync stream.the_row
-stream_sync = search (sendable, crosses, name_sync, counter_send, counter_sync, shown_mark_send, shown_mark_sync, input_send, input_sync, status_send, status_sync) depth 40 fits 20000
+stream_sync = search (
+  sendable,
+  crosses,
+  name_sync,
+  counter_send,
+  counter_sync,
+  shown_mark_send,
+  shown_mark_sync,
+  input_send,
+  input_sync,
+  status_send,
+  status_sync,
+) depth 40 fits 20000
 
 connections_send : IsSend connections.the_row
 connections_send = search (sendable, crosses, counter_send) depth 40 fits 20000
@@ -90,20 +114,20 @@ fifo_poll_send = search (sendable, crosses) depth 40 fits 20000
 pub positions_send : IsSend positions.the_row
 positions_send = search (sendable, crosses, counter_send, counter_sync, shown_mark_send, shown_mark_sync) depth 40 fits 20000
 
-pub teller_send : IsSend teller.the_row
-teller_send = search (sendable, crosses, name_send, messages_send, messages_sync) depth 40 fits 20000
+pub messenger_send : IsSend messenger.the_row
+messenger_send = search (sendable, crosses, name_send, messages_send, messages_sync) depth 40 fits 20000
 
-teller_sync : IsSync teller.the_row
-teller_sync = search (sendable, crosses, name_sync, messages_send, messages_sync) depth 40 fits 20000
+messenger_sync : IsSync messenger.the_row
+messenger_sync = search (sendable, crosses, name_sync, messages_send, messages_sync) depth 40 fits 20000
 
 pub stream_listener_send : IsSend stream_listener.the_row
-stream_listener_send = search (sendable, crosses, teller_send, seldom_send) depth 40 fits 20000
+stream_listener_send = search (sendable, crosses, messenger_send, seldom_send) depth 40 fits 20000
 
 pub stream_listener_sync : IsSync stream_listener.the_row
-stream_listener_sync = search (sendable, crosses, teller_sync, seldom_send) depth 40 fits 20000
+stream_listener_sync = search (sendable, crosses, messenger_sync, seldom_send) depth 40 fits 20000
 
-pub socket_writers_send : IsSend socket_writers.the_row
-socket_writers_send = search (sendable, crosses, stream_listener_send, stream_listener_sync, turns_send, seldom_send) depth 40 fits 20000
+pub socket_publishers_send : IsSend socket_publishers.the_row
+socket_publishers_send = search (sendable, crosses, stream_listener_send, stream_listener_sync, turns_send, seldom_send) depth 40 fits 20000
 
 pub notes_send : IsSend notes.the_row
 notes_send = search (sendable, crosses, counters_send, counters_sync, messages_send, messages_sync) depth 40 fits 20000

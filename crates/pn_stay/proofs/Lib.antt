@@ -1,11 +1,5 @@
 pub mod Buffers
 pub mod Crossing
-pub mod Endings
-pub mod EndsLongest
-pub mod Held
 pub mod Keys
 pub mod Lives
 pub mod Looks
-pub mod Pieces
-pub mod Quarters
-pub mod UnreadClients

@@ -3,39 +3,32 @@ use Rattle.std.proofs.Common.{◌≡◌, List, [], ◌∷◌, ◌++◌, Option, 
 use Rattle.std.specs.Prelude.{Contains}
 use Rattle.std.specs.List.{AllByRecursion}
 use Rattle.std.proofs.lemmas.List.Elements.{Contains-append_right}
-use Rattle.pn_record.specs.CellMap.{table_of}
-use Rattle.pn_record.specs.Cells.{SameImages}
-use Rattle.pn_record.specs.declared.image.Image.{Image}
-use Rattle.pn_stream.specs.Brokers.{BrokerRecord, IsHonest, up_to}
-use Rattle.pn_stream.specs.Positions.{DeliveryValue}
+use Rattle.pn_record.specs.Cells.{table_of, SameImages}
+use Rattle.pn_record.specs.declared.records.Image.{Image}
+use Rattle.pn_stream.specs.Brokers.{BrokerRecord, IsHonest, up_to, DeliveryValue}
 use Rattle.pn_tablet.specs.Copies.{TabletCopyValue}
 use Rattle.pn_apply.specs.Reducing.{images_in}
-use Rattle.pn_region.specs.Events.{RegionEvent, round, AllLeadTo, AreHonestEvents}
-use Rattle.pn_region.specs.Faith.{AreFaithful}
-use Rattle.pn_region.specs.Laws.{AreIn}
+use Rattle.pn_region.specs.Events.{RegionEvent, round, AllLeadTo, AreHonestEvents, start_events, all_left, all_taken}
+use Rattle.pn_region.specs.Laws.{AreFaithful, AreIn}
 use Rattle.pn_region.specs.Regions.{IsRegion, all_cells, new_region}
-use Rattle.pn_region.specs.Serving.{AllServe}
-use Rattle.pn_region.specs.Starting.{start_events}
-use Rattle.pn_region.specs.Taken.{all_left, all_taken}
+use Rattle.pn_region.specs.Reads.{AllServe}
 use Rattle.pn_region.proofs.EventImages.{alike, taken_together}
 use Rattle.pn_region.proofs.EventSteps.{events_are}
 use Rattle.pn_region.proofs.Faith.{new_faithful}
 use Rattle.pn_region.proofs.FaithfulEvents.{events_faithful}
 use Rattle.pn_region.proofs.Starting.{has_what_it_took, later_faithful, lead_on}
-use Rattle.pn_live.specs.Honest.{AreHonestTablets}
+use Rattle.pn_live.specs.PublishedTablets.{AreHonestTablets}
 use Rattle.pn_live.specs.LiveRegions.{LiveRegionValue, core}
-use Rattle.pn_live.proofs.Events.{new_core}
-use Rattle.pn_live.proofs.Starting.{starts_from}
+use Rattle.pn_live.proofs.Events.{new_core, starts_from}
 use Rattle.pn_serve.specs.Control.Commands.{event_by, with_event}
-use Rattle.pn_serve.specs.Script.Taken.{Settled}
-use Rattle.pn_serve.specs.Script.Told.{Told, images_of, machine_of, records_of}
-use Rattle.pn_serve.specs.Server.Events.{BringAll, IsCommand, WriterEvent, gathered, tried, taken, told}
-use Rattle.pn_serve.specs.Server.HonestEvents.{region_events}
+use Rattle.pn_serve.specs.Script.Events.{Settled}
+use Rattle.pn_serve.specs.Script.Laws.{Told, images_of, machine_of, records_of}
+use Rattle.pn_serve.specs.Server.Events.{BringAll, IsCommand, WriterEvent, gathered, tried, taken, told, region_events}
 use Rattle.pn_serve.proofs.EventsDone.{done_leads, left_taken}
-use Rattle.pn_serve.proofs.HonestLists.{did_honest, kept_honest}
+use Rattle.pn_serve.proofs.HonestStreams.{did_honest, kept_honest}
 use Rattle.pn_serve.proofs.ScriptLaws.{held_records, new_one}
 use Rattle.pn_serve.proofs.SentEvents.{did_honestly, honest_events}
-use Rattle.pn_stay.specs.Lives.{Begins, LivedHonestly, deeds, first_events, images_lived}
+use Rattle.pn_stay.specs.Servers.{Begins, LivedHonestly, deeds, first_events, images_lived}
 
 -- ---- events one after another
 
@@ -107,20 +100,23 @@ module _ (broker : BrokerRecord) (live : LiveRegionValue) (lived : LivedHonestly
       deeds_honest serve (left_taken broker (deeds lived))
   all_there (Some copies) begins serve =
       let events = region_events (deeds lived) in
-      has_what_it_took broker copies lived.layout events (core lived.started) (core live) (starts_from copies lived.layout lived.started lived.lawful begins.0 begins.1)
+      has_what_it_took broker copies lived.layout events (core lived.started) (core live)
+      (starts_from copies lived.layout lived.started lived.lawful begins.0 begins.1)
       begins.2 deeds_lead deeds_honest serve
       (subst (λ (images : List Image). AreIn images (all_taken broker (start_events copies ++ events))) (sym (left_of_start copies events))
       (λ image there. taken_after_start broker copies events image (left_taken broker (deeds lived) image there)))
 
   all_faithful : (copies : Option (List TabletCopyValue)) → Begins broker lived.layout copies lived.started → AreFaithful broker (core live).tablets
   all_faithful None begins =
-      events_faithful broker (region_events (deeds lived)) (new_region lived.layout) (core live) (new_one lived.layout lived.lawful) (new_faithful broker lived.layout)
+      events_faithful broker (region_events (deeds lived)) (new_region lived.layout) (core live) (new_one lived.layout lived.lawful)
+      (new_faithful broker lived.layout)
       deeds_honest (subst (λ region. AllLeadTo (region_events (deeds lived)) region (core live)) (new_core lived.layout lived.started begins) deeds_lead)
   all_faithful (Some copies) begins =
       later_faithful broker copies lived.layout (region_events (deeds lived)) (core lived.started) (core live)
       (starts_from copies lived.layout lived.started lived.lawful begins.0 begins.1) begins.2 deeds_lead deeds_honest
 
-  all_published : (copies : Option (List TabletCopyValue)) → Begins broker lived.layout copies lived.started → copies ≡ None → AreHonestTablets broker live.tablets
+  all_published : (copies : Option (List TabletCopyValue)) → Begins broker lived.layout copies lived.started → copies ≡ None
+      → AreHonestTablets broker live.tablets
   all_published None begins new =
       let read = did_honestly broker lived.layout _ lived.names lived.started lived.read lived.end lived.ran lived.lawful begins lived.adopts in
       let first : IsRegion (core lived.started) = subst IsRegion (sym (new_core lived.layout lived.started begins)) (new_one lived.layout lived.lawful) in
@@ -144,11 +140,13 @@ module _ (broker : BrokerRecord) (live : LiveRegionValue) (lived : LivedHonestly
 pub lived_alike : (broker : BrokerRecord) (one other : LiveRegionValue) (lived : LivedHonestly broker one) (lives : LivedHonestly broker other)
     → AllServe (core one) → AllServe (core other) → SameImages (images_lived lived) (images_lived lives) → all_cells (core one) ≡ all_cells (core other)
 lived_alike broker one other lived lives serve serves same =
-    alike (core one) (core other) (images_lived lived) (images_lived lives) (lived_records broker one lived serve) (lived_records broker other lives serves) same
+    alike (core one) (core other) (images_lived lived) (images_lived lives) (lived_records broker one lived serve) (lived_records broker other lives serves)
+    same
 
 -- so have a server and a script
 pub lived_as_told : (broker : BrokerRecord) (live : LiveRegionValue) (lived : LivedHonestly broker live) (script : Told) → AllServe (core live)
-    → Settled broker (new_region script.layout) script.input → SameImages (images_lived lived) (images_of broker script) → all_cells (core live) ≡ records_of script
+    → Settled broker (new_region script.layout) script.input → SameImages (images_lived lived) (images_of broker script)
+    → all_cells (core live) ≡ records_of script
 lived_as_told broker live lived script serve settled same =
     alike (core live) (machine_of script).region (images_lived lived) (images_of broker script)
     (lived_records broker live lived serve) (held_records broker script.layout script.lawful script.input settled) same

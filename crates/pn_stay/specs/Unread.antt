@@ -1,7 +1,23 @@
--- What a client has not taken of its replies, and which clients are ended for it.
-use Rattle.std.specs.Prelude.{◌≡◌, ◌==◌, ◌⊎◌, ◌≤◌, ℕ, Bool, ◌||◌, if◌then◌else◌, nat_le, true, Option, None, Some}
-use Rattle.pn_stay.specs.IdleTimeouts.{IdleTimeoutValue, after_quarter, new_idle_timeout}
+-- For how long a client was idle, what it has not taken of its replies, and which clients are ended for it.
+use Rattle.std.specs.Prelude.{ℕ, ◌+◌, Bool, true, false, min, if◌then◌else◌, ◌≡◌, ◌==◌, ◌⊎◌, ◌≤◌, ◌||◌, nat_le, Option, None, Some}
 use Rattle.pn_stay.specs.declared.unread.TheConstants.{DEAF_QUARTERS, QUIET_QUARTERS}
+
+-- For how many quarters of a second a client was idle.
+
+-- how many quarters, and whether the client was active in the one that is not over
+pub record IdleTimeoutValue : Type 0 where
+  pub quarters : ℕ
+  pub has_moved : Bool
+
+-- the timeout of a client that has just come
+abbrev pub new_idle_timeout : IdleTimeoutValue
+new_idle_timeout = record { quarters = 0; has_moved = true }
+
+-- the timeout once the quarter is over
+abbrev pub after_quarter : IdleTimeoutValue → IdleTimeoutValue
+after_quarter timeout = record { quarters = if timeout.has_moved then 0 else min (timeout.quarters + 1) 4294967295; has_moved = false }
+
+-- What a client has not taken of its replies, and which clients are ended for it.
 
 -- for how long the client takes no byte, and what the records weigh that its reply keeps
 pub record UnreadValue : Type 0 where
@@ -54,4 +70,5 @@ EndsAt longest before after = (after ≡ before) ⊎ ((after ≡ None) × (quiet
 -- each client is as it was; or it was ended, that took no byte for a second at least, and for no less time than any that stays
 abbrev pub EndsLongest : (ℕ → Option UnreadValue) → (ℕ → Option UnreadValue) → Type 0
 EndsLongest before after = (key : ℕ)
-    → (after key ≡ before key) ⊎ ((after key ≡ None) × (QUIET_QUARTERS ≤ quiet_in (before key)) × ((other : ℕ) → quiet_in (after other) ≤ quiet_in (before key)))
+    → (after key ≡ before key) ⊎ ((after key ≡ None) × (QUIET_QUARTERS ≤ quiet_in (before key))
+    × ((other : ℕ) → quiet_in (after other) ≤ quiet_in (before key)))

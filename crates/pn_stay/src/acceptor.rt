@@ -1,32 +1,26 @@
 //! Accepts clients: one for each session of a server that ends with them, or all for the threads of one that stays.
 
-ghost use Rattle.pn_serve.specs.Session.Knowing.{KnowsNoLess};
+ghost use Rattle.pn_serve.specs.Session.Resuming.{KnowsNoLess};
 
-use crate::connection_limit::{ConnectionLimit, Place};
 use crate::counters::{Counters, CountingSource};
+use crate::descriptors::{ConnectionLimit, Place};
 use crate::listener::Listener;
 use crate::messages::Messages;
+use crate::quarter_clock::QUARTER;
 use crate::reasons::describe_error;
 use crate::seldom::Seldom;
-use crate::shared::share;
 use crate::socket::{Socket, TrackedSocket};
 use crate::socket_mailbox::{Refusal, SocketMailbox, have_ended};
 use pn_live::LiveReader;
-use pn_serve::{Acceptor, Counter, FaultLog, session};
+use pn_serve::{Acceptor, Counter, FaultLog, SESSION_CAPACITY, session, share};
 use std::alloc::{AllocError, Global};
 use std::io::BufReader;
 use std::sync::{Arc, Wait};
 use std::time::{Clock, Duration};
 use std::{io, thread};
 
-/// How many bytes of a session are read at a time.
-const SESSION_READ_SIZE: usize = 65_536;
-
 /// For how many milliseconds nobody is accepted after the system refused a socket, as where no descriptor is left.
 const RETRY: u64 = 10;
-
-/// How many milliseconds a quarter of a second has.
-const QUARTER: u64 = 250;
 
 /// The message where as many connections are open as may be.
 const LIMIT_TEXT: &str = "cannot accept: all connections are open";
@@ -58,7 +52,7 @@ impl SocketAcceptor {
     fn answer(&self, alloc: Global, reader: &mut LiveReader, socket: &Socket) -> io::Result<()>
         ensures { KnowsNoLess reader.old reader.new }
     {
-        let input = BufReader::with_capacity(alloc, SESSION_READ_SIZE, TrackedSocket::new(socket))?;
+        let input = BufReader::with_capacity(alloc, SESSION_CAPACITY, TrackedSocket::new(socket))?;
         let counters = Arc::try_clone(&self.counters.clients)?;
         let mut input = CountingSource::new(input, Some(counters));
         let _ = session(alloc, reader, &mut input, &mut TrackedSocket::new(socket));
@@ -129,7 +123,7 @@ impl AcceptNotes {
     }
 
     // Counts that the system refuses a socket, and leaves a message.
-    fn tell_refusal<R: Wait + Clock>(&mut self, rt: &R, error: &io::Error) {
+    fn leave_refusal<R: Wait + Clock>(&mut self, rt: &R, error: &io::Error) {
         self.counters.connections.refused.add(1);
         if let Some(messages) = &self.messages {
             if self.refusals.is_due(rt) {
@@ -139,7 +133,7 @@ impl AcceptNotes {
     }
 
     // Leaves a message that as many connections are open as may be.
-    fn tell_limit<R: Wait + Clock>(&mut self, rt: &R) {
+    fn leave_limit<R: Wait + Clock>(&mut self, rt: &R) {
         if let Some(messages) = &self.messages {
             if self.limits.is_due(rt) {
                 messages.leave(rt, String::from_str(self.alloc, LIMIT_TEXT));
@@ -169,13 +163,13 @@ pub(crate) fn accept_all<R: Wait + Clock>(
                 continue;
             }
             if limit.is_reached(rt) {
-                notes.tell_limit(rt);
+                notes.leave_limit(rt);
             }
             if let Some(error) = accept_into(rt, listener, limit, mailbox) {
                 if mailbox.is_stopping(rt) {
                     return;
                 }
-                notes.tell_refusal(rt, &error);
+                notes.leave_refusal(rt, &error);
                 thread::sleep(rt, Duration::from_millis(RETRY));
             }
         }
@@ -224,11 +218,11 @@ fn accept_nonblocking(listener: &Listener) -> io::Result<Socket> {
 }
 
 /// Notes each quarter of a second in the mailboxes, for as long as the program runs.
-pub(crate) fn tell_quarters<R: Wait + Clock>(rt: &R, mailboxes: &[Arc<SocketMailbox>]) {
+pub(crate) fn wake_each_quarter<R: Wait + Clock>(rt: &R, mailboxes: &[Arc<SocketMailbox>]) {
     for _ in rt.forever() {
         thread::sleep(rt, Duration::from_millis(QUARTER));
         for mailbox in mailboxes.iter() {
-            let _ = mailbox.tell_quarter(rt);
+            let _ = mailbox.wake_for_quarter(rt);
         }
     }
 }

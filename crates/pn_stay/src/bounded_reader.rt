@@ -3,15 +3,15 @@
 ghost use Rattle.std.specs.Prelude.{◌≡◌, ◌<◌, ◌≤◌, max, true, None, IfSome};
 ghost use Rattle.pn_lines.specs.Answers.{answer_left as engine_left, answer_of};
 ghost use Rattle.pn_lines.specs.declared.handler.TheConstants.{MAX_ANSWER_UNITS};
-ghost use Rattle.pn_serve.specs.Lines.Handled.{pieces_left};
-ghost use Rattle.pn_serve.specs.Session.Knowing.{KnowsNoLess};
+ghost use Rattle.pn_serve.specs.Lines.{pieces_left};
+ghost use Rattle.pn_serve.specs.Session.Resuming.{KnowsNoLess};
 ghost use Rattle.pn_stay.specs.Looks.{AsksAgain, LooksFor, LooksOn, Settles, look_left, under};
 
 use crate::room::{ANY_ROOM, fits};
-use pn_lines::{Answer, Answered, EndedBy, LineHandler, LineReply, RefusesLong};
+use pn_lines::{Answered, EndedBy, LineHandler, LineOutcome, LineReply, RefusesLong};
 use pn_live::LiveReader;
 use pn_protocol::{LineKind, LineKinds};
-use pn_serve::{CountingReader, Going, ReplyPieces};
+use pn_serve::{CountingReader, PendingLookup, ReplyPieces};
 use std::alloc::Global;
 use std::marker::Model;
 
@@ -27,9 +27,9 @@ pub(crate) struct AskedLine {
 
 /// A look for the reply to a line.
 #[derive(Drop)]
-pub(crate) enum Look {
+pub(crate) enum BoundedLookup {
     /// It goes on. With its line it may be put off.
-    Under(Going, Option<AskedLine>),
+    Under(PendingLookup, Option<AskedLine>),
     /// Its reply kept `weight` bytes, for which there was no room. The line is asked again once there is, or after `waits` waits.
     PutOff {
         line: AskedLine,
@@ -47,11 +47,10 @@ pub(crate) struct BoundedReader {
 }
 
 impl Model for BoundedReader {
+    ghost use Rattle.pn_live.specs.Proofs.{reader_code};
     ghost use Rattle.pn_live.specs.Readers.{LiveReaderValue};
 
     ghost Value = { LiveReaderValue };
-
-    ghost use Rattle.pn_live.specs.Proofs.Coding.{reader_code};
 
     ghost coded = { reader_code };
 
@@ -102,26 +101,26 @@ impl BoundedReader {
     fn look_on(
         &mut self,
         alloc: Global,
-        going: Going,
+        pending: PendingLookup,
         line: Option<AskedLine>,
         units: u32,
-    ) -> Answered<Look, ReplyPieces>
-        ensures looks { LooksOn self.old self.new going line (answer_of pieces_left result.answer) }
-        ensures nearer { 0 < units → engine_left look_left (answer_of pieces_left result.answer) ≤ look_left (Look.Under going line) }
+    ) -> Answered<BoundedLookup, ReplyPieces>
+        ensures looks { LooksOn self.old self.new pending line (answer_of pieces_left result.answer) }
+        ensures nearer { 0 < units → engine_left look_left (answer_of pieces_left result.answer) ≤ look_left (BoundedLookup.Under pending line) }
         ensures few { result.units ≤ max units MAX_ANSWER_UNITS }
         ensures kept { KnowsNoLess self.old self.new }
     {
-        let kind = going.kind();
+        let kind = pending.kind();
         let Answered {
             answer,
             units: used,
-        } = self.reader.go_on(alloc, going, units);
+        } = self.reader.go_on(alloc, pending, units);
         match answer {
-            Answer::Going(going) => Answered {
-                answer: Answer::Going(Look::Under(going, line)),
+            LineOutcome::Pending(pending) => Answered {
+                answer: LineOutcome::Pending(BoundedLookup::Under(pending, line)),
                 units: used,
             },
-            Answer::Done(reply) => Answered {
+            LineOutcome::Done(reply) => Answered {
                 answer: self.settle(kind, reply, line),
                 units: used.max(units),
             },
@@ -134,25 +133,25 @@ impl BoundedReader {
         kind: LineKind,
         reply: LineReply<ReplyPieces>,
         line: Option<AskedLine>,
-    ) -> Answer<Look, ReplyPieces>
+    ) -> LineOutcome<BoundedLookup, ReplyPieces>
         ensures settles { Settles reply line result }
         ensures kept { self.new ≡ self.old }
     {
         let weight = self.weight_of(&reply);
         if fits(weight, self.room) {
-            return Answer::Done(reply);
+            return LineOutcome::Done(reply);
         }
         match line {
             Some(line) => {
                 self.reader.take_back(kind);
                 self.wanted = Some(weight);
-                Answer::Going(Look::PutOff {
+                LineOutcome::Pending(BoundedLookup::PutOff {
                     line,
                     weight,
                     waits: MAX_WAITS,
                 })
             }
-            None => Answer::Done(reply),
+            None => LineOutcome::Done(reply),
         }
     }
 
@@ -179,9 +178,9 @@ impl BoundedReader {
         weight: u64,
         waits: u64,
         units: u32,
-    ) -> Answered<Look, ReplyPieces>
+    ) -> Answered<BoundedLookup, ReplyPieces>
         ensures asks { AsksAgain self.old self.new line waits (answer_of pieces_left result.answer) }
-        ensures nearer { engine_left look_left (answer_of pieces_left result.answer) ≤ look_left (Look.PutOff line weight waits) }
+        ensures nearer { engine_left look_left (answer_of pieces_left result.answer) ≤ look_left (BoundedLookup.PutOff line weight waits) }
         ensures few { result.units ≤ max units MAX_ANSWER_UNITS }
         ensures kept { KnowsNoLess self.old self.new }
     {
@@ -189,7 +188,7 @@ impl BoundedReader {
             self.wanted = Some(weight);
             let waits = waits - 1;
             return Answered {
-                answer: Answer::Going(Look::PutOff {
+                answer: LineOutcome::Pending(BoundedLookup::PutOff {
                     line,
                     weight,
                     waits,
@@ -197,41 +196,40 @@ impl BoundedReader {
                 units,
             };
         }
-        let Answered {
-            answer,
-            units: used,
-        } = self.reader.begin_line(alloc, &line.bytes, line.ended);
+        let Answered { answer, units } = self.reader.begin_line(alloc, &line.bytes, line.ended);
         Answered {
             answer: looked_under(answer),
-            units: used,
+            units,
         }
     }
 }
 
 // A look that is not put off.
-fn looked_under(answer: Answer<Going, ReplyPieces>) -> Answer<Look, ReplyPieces>
+fn looked_under(
+    answer: LineOutcome<PendingLookup, ReplyPieces>,
+) -> LineOutcome<BoundedLookup, ReplyPieces>
     ensures { result ≡ under None answer }
 {
     match answer {
-        Answer::Going(going) => Answer::Going(Look::Under(going, None)),
-        Answer::Done(reply) => Answer::Done(reply),
+        LineOutcome::Pending(pending) => LineOutcome::Pending(BoundedLookup::Under(pending, None)),
+        LineOutcome::Done(reply) => LineOutcome::Done(reply),
     }
 }
 
 // A look that may be put off where there is memory for its line.
 fn looked_for(
     alloc: Global,
-    answer: Answer<Going, ReplyPieces>,
+    answer: LineOutcome<PendingLookup, ReplyPieces>,
     line: &[u8],
     ended: EndedBy,
-) -> Answer<Look, ReplyPieces>
+) -> LineOutcome<BoundedLookup, ReplyPieces>
     ensures { LooksFor line.now ended answer result }
 {
     match answer {
-        Answer::Going(going) => {
-            Answer::Going(Look::Under(going, asked_line(alloc, line, ended)))
+        LineOutcome::Pending(pending) => {
+            LineOutcome::Pending(BoundedLookup::Under(pending, asked_line(alloc, line, ended)))
         }
-        Answer::Done(reply) => Answer::Done(reply),
+        LineOutcome::Done(reply) => LineOutcome::Done(reply),
     }
 }
 
@@ -246,12 +244,12 @@ fn asked_line(alloc: Global, line: &[u8], ended: EndedBy) -> Option<AskedLine>
 }
 
 impl LineHandler for BoundedReader {
-    ghost use Rattle.pn_serve.specs.Session.Knowing.{KnowsNoLess};
+    ghost use Rattle.pn_serve.specs.Session.Resuming.{KnowsNoLess};
     ghost use Rattle.pn_stay.specs.Looks.{bounded_reads, look_left};
-    ghost use Rattle.pn_stay.specs.Proofs.Steady.{reads_steadily};
+    ghost use Rattle.pn_stay.specs.Proofs.{reads_steadily};
     ghost use Rattle.std.specs.Prelude.{⊤};
 
-    type Going = Look;
+    type Pending = BoundedLookup;
 
     type Text = ReplyPieces;
 
@@ -268,7 +266,7 @@ impl LineHandler for BoundedReader {
         alloc: Global,
         line: &[u8],
         ended: EndedBy,
-    ) -> Answered<Look, ReplyPieces> {
+    ) -> Answered<BoundedLookup, ReplyPieces> {
         let Answered { answer, units } = self.reader.begin_line(alloc, line, ended);
         Answered {
             answer: looked_for(alloc, answer, line, ended),
@@ -276,10 +274,15 @@ impl LineHandler for BoundedReader {
         }
     }
 
-    fn go_on(&mut self, alloc: Global, going: Look, units: u32) -> Answered<Look, ReplyPieces> {
-        match going {
-            Look::Under(going, line) => self.look_on(alloc, going, line, units),
-            Look::PutOff {
+    fn go_on(
+        &mut self,
+        alloc: Global,
+        pending: BoundedLookup,
+        units: u32,
+    ) -> Answered<BoundedLookup, ReplyPieces> {
+        match pending {
+            BoundedLookup::Under(pending, line) => self.look_on(alloc, pending, line, units),
+            BoundedLookup::PutOff {
                 line,
                 weight,
                 waits,

@@ -1,15 +1,14 @@
 //! A connection of an event loop: its socket, what it keeps between two turns, and for how long it is idle.
 
 ghost use Rattle.std.specs.Prelude.{◌≡◌, ◌||◌, ◌+◌, ◌-◌, ◌^◌, ◌≤◌, ◌↔◌, min, true, IsTrue};
-ghost use Rattle.pn_serve.specs.Session.Knowing.{KnowsNoLess};
-ghost use Rattle.pn_stay.specs.IdleTimeouts.{new_idle_timeout, after_quarter};
+ghost use Rattle.pn_serve.specs.Session.Resuming.{KnowsNoLess};
+ghost use Rattle.pn_stay.specs.Unread.{new_idle_timeout, after_quarter, aged, is_deaf, weight_in};
 ghost use Rattle.std.specs.Option.{option_map};
-ghost use Rattle.pn_stay.specs.Unread.{aged, is_deaf, weight_in};
 
-use crate::bounded_reader::{BoundedReader, Look};
+use crate::bounded_reader::{BoundedLookup, BoundedReader};
 use crate::counters::{Kept, UnreadCounters};
-use crate::line_clock::LineClock;
-use crate::polled_input::PolledInput;
+use crate::input_buffer::PolledInput;
+use crate::quarter_clock::LineClock;
 use crate::room::Room;
 use crate::socket::{Socket, TrackedSocket};
 use crate::unread::UnreadReply;
@@ -25,7 +24,7 @@ use std::time::{Clock, Instant};
 #[derive(Drop)]
 pub(crate) struct Connection {
     socket: Socket,
-    lines: LineTurns<Look, ReplyPieces>,
+    lines: LineTurns<BoundedLookup, ReplyPieces>,
     pub(crate) idle: IdleTimeout,
     clock: LineClock,
     /// What waits for its client, if anything does.
@@ -107,7 +106,7 @@ impl Connection {
         wanted: Option<u64>,
         has_taken: bool,
     ) -> Option<Pause> {
-        let has_more = turned == TurnOutcome::Goes(Pause::Turn) || self.lines.is_going();
+        let has_more = turned == TurnOutcome::Goes(Pause::Turn) || self.lines.is_pending();
         self.idle.note_activity(has_more || has_taken);
         self.room = self.room.after_turn(wanted, self.going_line());
         self.note_unread(turned == TurnOutcome::Goes(Pause::Output), has_taken);
@@ -130,8 +129,8 @@ impl Connection {
         at_hand: &Option<Instant>,
         times: &TimeCounters,
     ) {
-        let (lines, is_going) = (self.lines.counts().lines, self.lines.is_going());
-        self.clock.end_turn(rt, at_hand, lines, is_going, times);
+        let (lines, is_pending) = (self.lines.counts().lines, self.lines.is_pending());
+        self.clock.end_turn(rt, at_hand, lines, is_pending, times);
     }
 
     /// What the records weigh that its reply keeps, where that waits for its client.
@@ -177,7 +176,7 @@ impl Connection {
 
     // The line whose reply is looked for, if one is.
     fn going_line(&self) -> Option<u64> {
-        if self.lines.is_going() {
+        if self.lines.is_pending() {
             return Some(self.lines.counts().lines);
         }
         None
@@ -189,7 +188,7 @@ impl Connection {
         ensures aged { self.new.unread ≡ option_map aged self.old.unread }
         ensures deaf { result ≡ option_map is_deaf self.new.unread }
     {
-        self.idle.note_activity(self.lines.is_going());
+        self.idle.note_activity(self.lines.is_pending());
         match &mut self.unread {
             Some(unread) => {
                 unread.end_quarter();
@@ -247,7 +246,7 @@ pub struct IdleTimeout {
 }
 
 impl Model for IdleTimeout {
-    ghost use Rattle.pn_stay.specs.IdleTimeouts.{IdleTimeoutValue};
+    ghost use Rattle.pn_stay.specs.Unread.{IdleTimeoutValue};
 
     ghost Value = { IdleTimeoutValue };
 

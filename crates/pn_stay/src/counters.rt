@@ -13,9 +13,6 @@ use std::alloc::{AllocError, Global};
 use std::io;
 use std::sync::Arc;
 
-/// How many bytes of records unread replies may keep, unless it is said.
-const DEFAULT_UNREAD: u64 = 64_000_000;
-
 /// How many lines were read, and how many bytes.
 #[derive(Drop)]
 pub struct InputCounters {
@@ -49,8 +46,8 @@ pub struct StreamCounters {
     pub input: Arc<InputCounters>,
     /// The position up to which rounds have taken the stream, where they note that.
     pub taken: Option<Arc<ShownMark>>,
-    /// The position that its writer was sent last, if its writers are sent positions.
-    pub told: Option<Arc<Counter>>,
+    /// The position that its publisher was sent last, if its publishers are sent positions.
+    pub sent: Option<Arc<Counter>>,
     /// The status of the stream, where it is noted.
     pub status: Option<Arc<StreamStatus>>,
     /// How many bytes the stream's file has, if it is one that ends.
@@ -111,12 +108,12 @@ pub struct UnreadCounters {
 }
 
 impl UnreadCounters {
-    fn new() -> UnreadCounters {
+    fn new(limit: u64) -> UnreadCounters {
         UnreadCounters {
             bytes: Counter::new(),
             wanted: Counter::new(),
             ended: Counter::new(),
-            limit: DEFAULT_UNREAD,
+            limit,
         }
     }
 
@@ -174,13 +171,19 @@ pub struct Counters {
 }
 
 impl Counters {
-    /// The counters of a server that has done nothing so far.
-    pub fn new(alloc: Global, streams: Vec<StreamCounters>) -> Result<Counters, AllocError> {
+    /// The counters of a server that has done nothing so far. Unread replies may keep `unread` bytes of records.
+    pub fn new(
+        alloc: Global,
+        streams: Vec<StreamCounters>,
+        memory: MemoryMeter,
+        unread: u64,
+    ) -> Result<Counters, AllocError> {
         let rounds = Arc::new(alloc, Counter::new())?;
         let round_times = Arc::new(alloc, TimeCounters::new(alloc)?)?;
         let shortage = Arc::new(alloc, Counter::new())?;
         let waiting = Arc::new(alloc, Counter::new())?;
         let clients = Arc::new(alloc, InputCounters::new())?;
+        let line_times = TimeCounters::new(alloc)?;
         Ok(Counters {
             rounds,
             shortage,
@@ -188,12 +191,12 @@ impl Counters {
             clients,
             refused: Counter::new(),
             kinds: KindCounters::new(),
-            line_times: TimeCounters::new(alloc)?,
+            line_times,
             round_times,
             connections: ConnectionCounters::new(),
-            unread: UnreadCounters::new(),
+            unread: UnreadCounters::new(unread),
             streams,
-            memory: MemoryMeter::new(),
+            memory,
         })
     }
 }
@@ -228,7 +231,7 @@ impl<S: Source + Drop> Source for CountingSource<S> {
 
     ghost may_end = { S.may_end };
 
-    ghost looks = { λ counting. S.looks counting.source };
+    ghost polls = { λ counting. S.polls counting.source };
 
     fn take_some(&mut self, line: &mut LineBuffer) -> io::Result<Piece> {
         let before = line.len();

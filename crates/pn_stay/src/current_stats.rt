@@ -1,5 +1,7 @@
 //! The counts that a control session shows: what a server has done so far.
 
+ghost use Rattle.std.specs.Prelude.{◌≡◌};
+
 use crate::counters::{Counters, StreamCounters};
 use crate::socket::Socket;
 use crate::streams::status::StreamStatus;
@@ -23,8 +25,28 @@ pub(crate) struct CurrentStats<'a, R> {
 
 impl<R: Wait + Clock> StatsSource for CurrentStats<'_, R> {
     fn stats(&self, alloc: Global, tablets: Vec<TabletStats>) -> Result<Stats, NoMemory> {
+        let streams = stats_of_streams(self.rt, alloc, &self.counters.streams)?;
+        let times = stats_of_times(alloc, self.counters)?;
+        Ok(self.collect(tablets, streams, times))
+    }
+
+    fn has_client_gone(&self) -> bool {
+        self.client.has_gone()
+    }
+}
+
+impl<R: Clock> CurrentStats<'_, R> {
+    // Collects all counts, with these of tablets, streams and times.
+    fn collect(
+        &self,
+        tablets: Vec<TabletStats>,
+        streams: Vec<StreamStats>,
+        times: TimeStats,
+    ) -> Stats
+        ensures { result.tablets ≡ tablets }
+    {
         let counters = self.counters;
-        Ok(Stats {
+        Stats {
             bytes: counters.memory.bytes(),
             connections: ConnectionStats {
                 accepted: counters.connections.accepted.get(),
@@ -40,12 +62,9 @@ impl<R: Wait + Clock> StatsSource for CurrentStats<'_, R> {
                 kinds: counters.kinds.lines(),
             },
             rounds: counters.rounds.get(),
-            streams: stats_of_streams(self.rt, alloc, &counters.streams)?,
+            streams,
             tablets,
-            times: TimeStats {
-                lines: counters.line_times.counts(alloc)?,
-                rounds: counters.round_times.counts(alloc)?,
-            },
+            times,
             unread: UnreadStats {
                 bytes: counters.unread.bytes.get(),
                 ended: counters.unread.ended.get(),
@@ -53,12 +72,15 @@ impl<R: Wait + Clock> StatsSource for CurrentStats<'_, R> {
             },
             uptime: seconds_since(self.rt, self.started).unwrap_or(0),
             version: VERSION,
-        })
+        }
     }
+}
 
-    fn has_client_gone(&self) -> bool {
-        self.client.has_gone()
-    }
+// How long lines and rounds took.
+fn stats_of_times(alloc: Global, counters: &Counters) -> Result<TimeStats, NoMemory> {
+    let lines = counters.line_times.counts(alloc)?;
+    let rounds = counters.round_times.counts(alloc)?;
+    Ok(TimeStats { lines, rounds })
 }
 
 fn stats_of_streams<R: Wait + Clock>(

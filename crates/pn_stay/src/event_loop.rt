@@ -1,13 +1,10 @@
 //! The event loop of a session thread: its connections have their turns one after another.
 
 ghost use Rattle.std.specs.Prelude.{◌≡◌, ◌+◌, ℕ, None, OnErr, OnOk, vec_len};
-ghost use Rattle.pn_serve.specs.Session.Knowing.{KnowsNoLess};
-ghost use Rattle.pn_stay.specs.Loops.{ending_at, idle_at};
-ghost use Rattle.pn_stay.specs.UnreadClients.{unread_at};
+ghost use Rattle.pn_serve.specs.Session.Resuming.{KnowsNoLess};
+ghost use Rattle.pn_stay.specs.Loops.{ending_at, idle_at, unread_at};
 ghost use Rattle.slab.specs.Slab.{slab_len, Updates};
 
-mod ending;
-mod idle;
 mod unread;
 mod waiting;
 

@@ -1,17 +1,57 @@
-//! The input buffer of a control thread, which its clients use one after another.
+//! The input buffer of a connection, which is polled.
 
-ghost use Rattle.std.specs.Prelude.{◌≡◌, ◌≢◌, ◌⊎◌, ◌≤◌, ◌↔◌, [], true, false, length, take, IfErr, IfOk, IsTrue, OnErr};
+ghost use Rattle.std.specs.Prelude.{◌≡◌, false, true, ◌≢◌, ◌⊎◌, ◌≤◌, ◌↔◌, [], length, take, IfErr, IfOk, IsTrue, OnErr};
 ghost use Rattle.std.specs.Io.KnownBytes.{Consumes, IsAtEnd, Keeps};
 ghost use Rattle.std.specs.IoError.{error_kind};
-ghost use Rattle.pn_line.specs.Reads.{newline_after};
+ghost use Rattle.pn_line.specs.Line.{newline_after};
 ghost use Rattle.pn_lines.specs.declared.turns.input.TheConstants.{READ_SIZE};
 
+use crate::socket::has_failed_after;
 use pn_line::{InMemory, LineBuffer, MAX_LINE_BYTES, Piece, Source};
 use pn_lines::{Input, READ_SIZE};
 use std::alloc::{AllocError, Global};
 use std::io;
-use std::io::ErrorKind;
+use std::io::{ErrorKind, Read};
 use std::marker::Model;
+
+/// An input, whether a poll reports what comes later, and whether a read has failed.
+#[derive(Drop)]
+pub(crate) struct PolledInput<R: Drop> {
+    input: R,
+    is_reported: bool,
+    has_failed: bool,
+}
+
+impl<R: Read + Drop> PolledInput<R> {
+    /// The same input. Whether the poll reports what comes later, and the end: one that it has reported with the last bytes is
+    /// not reported again.
+    pub(crate) fn new(input: R, is_reported: bool) -> PolledInput<R>
+        ensures input { R.remaining result.input ≡ R.remaining input }
+        ensures failed { result.has_failed ≡ false }
+    {
+        PolledInput {
+            input,
+            is_reported,
+            has_failed: false,
+        }
+    }
+}
+
+impl<R: Read + Drop> Input for PolledInput<R> {
+    ghost remaining = { λ polled. R.remaining polled.input };
+
+    ghost has_failed = { λ polled. polled.has_failed ≡ true };
+
+    fn read_some(&mut self, buf: &mut [u8]) -> io::Result<usize> {
+        let read = self.input.read(buf);
+        self.has_failed = has_failed_after(self.has_failed, &read);
+        read
+    }
+
+    fn is_polled(&self) -> bool {
+        self.is_reported
+    }
+}
 
 /// How many bytes fit into it.
 pub const INPUT_CAPACITY: usize = MAX_LINE_BYTES - 1;
@@ -124,7 +164,7 @@ impl Source for InputBuffer {
 
     ghost may_end = { Unit {0} };
 
-    ghost looks = { λ _. 0 };
+    ghost polls = { λ _. 0 };
 
     fn take_some(&mut self, line: &mut LineBuffer) -> io::Result<Piece> {
         let before = line.len();

@@ -4,30 +4,25 @@
 mod acceptor;
 mod bounded_reader;
 mod connection;
-mod connection_limit;
 mod counters;
 mod current_stats;
 mod descriptors;
 mod event_loop;
+mod fakes;
 mod input_buffer;
 mod interrupts;
 mod laws;
-mod line_clock;
 mod line_counters;
 mod lingering;
 mod listener;
 mod memory;
 mod messages;
-mod polled_input;
 mod progress;
 mod quarter_clock;
 mod reasons;
 mod room;
-mod scripted;
 mod seldom;
 mod server;
-mod server_laws;
-mod shared;
 mod socket;
 mod socket_file;
 mod socket_mailbox;
@@ -40,29 +35,27 @@ pub use counters::{
     ConnectionCounters, Counters, CountingSource, InputCounters, StreamCounters, UnreadCounters,
 };
 pub use descriptors::{DescriptorUses, allowed_descriptors, count_descriptors};
+pub use fakes::{FakeSink, FakeSource};
 pub use input_buffer::{INPUT_CAPACITY, InputBuffer};
-pub use laws::{AnsweredInTurns, every_way_of_coming_and_going};
+pub use laws::{AnsweredInTurns, a_server_has_what_it_took, every_way_of_coming_and_going};
 pub use listener::Listener;
 pub use memory::MemoryMeter;
 pub use messages::{MAX_WAITING, MessagePrinter, Messages, Shortages, WaitingLines};
-pub use progress::{message_prefix, tell_progress};
+pub use progress::{message_prefix, print_progress};
 pub use reasons::{describe_error, format_after, format_failure, format_refusal, format_taken};
-pub use scripted::{ScriptedSink, ScriptedSource};
 pub use server::StayingServer;
 pub use server::ending::ServerEnd;
 pub use server::starting::ServerSizes;
-pub use server_laws::a_server_has_what_it_took;
-pub use shared::share;
 pub use socket_file::{ListenFault, OWNER_ALONE, SocketFile, format_lock, remove_sockets};
-pub use streams::broker::BrokerListener;
-pub use streams::files::{FileSource, OpenedFiles, StreamOpenFault, open_files};
-pub use streams::input::{SocketInput, StreamInput, StreamSource};
+pub use streams::input::{
+    FileSource, OpenedFiles, SocketInput, StreamInput, StreamOpenFault, StreamSource, open_files,
+};
 pub use streams::listener::StreamListener;
 pub use streams::message_input::{MessageInput, NewestListener};
 pub use streams::opening::{OpenedStreams, StreamSetting, open_origins};
-pub use streams::origin::StreamOrigin;
+pub use streams::origin::{BrokerListener, StreamOrigin};
+pub use streams::publisher::PublisherSocket;
 pub use streams::remarks::{
     MAX_IDENTITY_BYTES, RemarkFault, format_other_stream, read_newest, read_stream,
 };
 pub use streams::status::StreamStatus;
-pub use streams::writer::WriterSocket;

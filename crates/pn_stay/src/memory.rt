@@ -1,14 +1,11 @@
 //! How much memory this process has.
 
-use libc::pread;
+use libc::{_SC_PAGESIZE, pread, sysconf};
 use std::fs::{File, Files};
 use std::os::fd::AsRawFd;
 
 /// Where the system says how many pages this process has.
 const PAGES: &str = "/proc/self/statm";
-
-/// How many bytes a page has.
-const PAGE: u64 = 4_096;
 
 /// How many bytes of the system's text are read.
 const TEXT_SIZE: usize = 128;
@@ -31,10 +28,15 @@ impl MemoryMeter {
     /// How many bytes of memory this process has, or 0 where that is not known.
     pub(crate) fn bytes(&self) -> u64 {
         match &self.0 {
-            Some(file) => count_pages(file).saturating_mul(PAGE),
+            Some(file) => count_pages(file).saturating_mul(page_bytes()),
             None => 0,
         }
     }
+}
+
+// How many bytes a page has, or 0 where the system does not say it.
+fn page_bytes() -> u64 {
+    u64::try_from(sysconf(_SC_PAGESIZE)).unwrap_or(0)
 }
 
 // The system writes the text anew each time that its beginning is read.

@@ -1,7 +1,7 @@
 //! Lines for standard error. A thread of its own writes them, so that nobody else waits for who reads them.
 
 ghost use Rattle.std.specs.Prelude.{◌≡◌, ◌<◌, ◌≤◌, ◌↔◌, ◌++◌, ◌∷◌, [], length, IfOk, IsTrue};
-ghost use Rattle.pn_stay.specs.Messages.{one_more};
+ghost use Rattle.pn_stay.specs.Servers.{one_more};
 
 use crate::counters::Counters;
 use pn_serve::Counter;
@@ -24,8 +24,9 @@ pub struct Messages {
 impl Messages {
     /// No line waits.
     pub fn new(alloc: Global) -> Result<Messages, AllocError> {
+        let waiting = WaitingLines::new(alloc)?;
         Ok(Messages {
-            waiting: Mutex::new(WaitingLines::new(alloc)?),
+            waiting: Mutex::new(waiting),
             left: Condvar::new(),
         })
     }
@@ -60,7 +61,7 @@ pub struct WaitingLines {
 
 impl Model for WaitingLines {
     ghost use Rattle.std.specs.Prelude.{◌≤◌, vec_len, vec_capacity};
-    ghost use Rattle.pn_stay.specs.Messages.{Waiting};
+    ghost use Rattle.pn_stay.specs.Servers.{Waiting};
     ghost use Rattle.pn_stay.specs.declared.messages.TheConstants.{MAX_WAITING};
 
     ghost Value = { Waiting };
@@ -75,10 +76,8 @@ impl WaitingLines {
     pub fn new(alloc: Global) -> Result<WaitingLines, AllocError>
         ensures { IfOk result (λ waiting. waiting ≡ ([], 0)) }
     {
-        Ok(WaitingLines {
-            lines: Vec::with_capacity(alloc, MAX_WAITING)?,
-            dropped: 0,
-        })
+        let lines = Vec::with_capacity(alloc, MAX_WAITING)?;
+        Ok(WaitingLines { lines, dropped: 0 })
     }
 
     pub fn lines(&self) -> &[String]
@@ -192,7 +191,7 @@ impl MessagePrinter {
     }
 }
 
-// Tells where one of these begins to wait for memory, or none waits any more. Answers whether one waits.
+// Prints where one of these begins to wait for memory, or none waits any more. Answers whether one waits.
 fn print_shortage<R: Eprint>(
     rt: &R,
     shortage: &Counter,

@@ -94,15 +94,15 @@ pub fn message_prefix(is_progress_told: bool) -> &'static str {
 }
 
 /// Tells for as long as the program runs.
-pub fn tell_progress<R: Wait + Clock + Eprint>(rt: &R, alloc: Global, counters: &Counters) {
+pub fn print_progress<R: Wait + Clock + Eprint>(rt: &R, alloc: Global, counters: &Counters) {
     let is_terminal = is_terminal();
-    let mut told = Totals::new(alloc);
+    let mut printed = Totals::new(alloc);
     for _ in rt.forever() {
         thread::sleep(rt, Duration::from_secs(1));
         if let Ok(now) = Totals::read(alloc, counters) {
-            if now.differs_from(&told) {
-                let _ = print_totals(rt, alloc, counters, (&told, &now), is_terminal);
-                told = now;
+            if now.differs_from(&printed) {
+                let _ = print_totals(rt, alloc, counters, (&printed, &now), is_terminal);
+                printed = now;
             }
         }
     }

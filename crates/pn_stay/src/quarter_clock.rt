@@ -1,14 +1,54 @@
-//! The quarters of a second of a thread, which are counted only while somebody is waited for.
+//! Clocks of lines and of quarters of a second.
 
 ghost use Rattle.std.specs.Prelude.{◌≡◌, ◌*◌, ◌≤◌, ◌↔◌, ◌||◌, None, false, IfOk, IsTrue, OnErr};
 ghost use Rattle.std.specs.Duration.{as_nanos};
 ghost use Rattle.pn_stay.specs.declared.quarter_clock.TheConstants.{QUARTER};
 
+use pn_serve::TimeCounters;
 use std::io;
 use std::time::{Clock, Duration, Instant};
 
+/// How many lines of a connection were timed, and since when the last one is at hand, where it goes on.
+#[derive(Drop)]
+pub(crate) struct LineClock {
+    timed: u64,
+    since: Option<Instant>,
+}
+
+impl LineClock {
+    /// The clock of a connection of which no line was taken.
+    pub(crate) fn new() -> LineClock {
+        LineClock {
+            timed: 0,
+            since: None,
+        }
+    }
+
+    /// A turn is over, up to which `lines` lines were taken. The last may go on; the others have their replies. What was
+    /// taken in the turn was at hand then.
+    pub(crate) fn end_turn<R: Clock>(
+        &mut self,
+        rt: &R,
+        at_hand: &Option<Instant>,
+        lines: u64,
+        is_pending: bool,
+        times: &TimeCounters,
+    ) {
+        let began = match self.since {
+            Some(since) => Some(since),
+            None => *at_hand,
+        };
+        let done = lines.saturating_sub(u64::from(is_pending));
+        if self.timed < done {
+            times.add_since(rt, &began, done.saturating_sub(self.timed));
+            self.timed = done;
+        }
+        self.since = if is_pending { began } else { None };
+    }
+}
+
 /// How many milliseconds a quarter of a second has.
-const QUARTER: u64 = 250;
+pub(crate) const QUARTER: u64 = 250;
 
 /// After how many milliseconds the clock is looked at again while it runs.
 const PAUSE: u64 = 50;

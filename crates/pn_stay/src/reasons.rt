@@ -1,9 +1,9 @@
-//! Why a writer's input is no longer read, and why the system refuses something: in words, and in a line for the writer.
+//! Why a publisher's input is no longer read, and why the system refuses something: in words, and in a line for the publisher.
 
 ghost use Rattle.std.specs.Prelude.{◌≡◌, ◌++◌, codes, decimal, max, string_bytes, IfOk};
-ghost use Rattle.pn_serve.specs.Server.Shown.{IsShown};
-ghost use Rattle.pn_stay.specs.Reasons.{image_word, stream_word, member_detail, stream_detail, refusal_line};
-ghost use Rattle.pn_stay.specs.Reasons.{image_words, stream_words, reason_words, failure_words};
+ghost use Rattle.pn_serve.specs.Server.Reports.{IsShown};
+ghost use Rattle.pn_stay.specs.Remarks.{stream_word, member_detail, stream_detail, refusal_line, image_words, stream_fault_words as stream_words, reason_words};
+ghost use Rattle.pn_stay.specs.Remarks.{failure_words};
 
 use pn_join::Name;
 use pn_record::ImageFault;
@@ -11,7 +11,7 @@ use pn_stream::{ResumeFault, StreamFault};
 use std::alloc::{AllocError, Global};
 use std::io;
 
-/// The line that tells a writer where the stream goes on: one past what was handed to rounds or the region's mark at the latest.
+/// The line that tells a publisher where the stream goes on: one past what was handed to rounds or the region's mark at the latest.
 pub fn format_after(alloc: Global, handed: u64, taken: u64) -> Result<String, AllocError>
     requires { IsShown taken }
     ensures { IfOk result (λ line. string_bytes line ≡ codes "{\"after\":" ++ (decimal (max handed taken) ++ codes "}\n")) }
@@ -20,7 +20,7 @@ pub fn format_after(alloc: Global, handed: u64, taken: u64) -> Result<String, Al
     format!(in alloc; "{{\"after\":{after}}}\n")
 }
 
-/// The line that tells a writer up to which position the stream was taken: a mark of the region.
+/// The line that tells a publisher up to which position the stream was taken: a mark of the region.
 pub fn format_taken(alloc: Global, taken: u64) -> Result<String, AllocError>
     requires { IsShown taken }
     ensures { IfOk result (λ line. string_bytes line ≡ codes "{\"taken\":" ++ (decimal taken ++ codes "}\n")) }
@@ -28,7 +28,7 @@ pub fn format_taken(alloc: Global, taken: u64) -> Result<String, AllocError>
     format!(in alloc; "{{\"taken\":{taken}}}\n")
 }
 
-/// The line that tells a writer why its input is no longer read; the message at this position was due.
+/// The line that tells a publisher why its input is no longer read; the message at this position was due.
 pub fn format_refusal(
     alloc: Global,
     fault: &ResumeFault,
@@ -91,7 +91,7 @@ fn describe_image(alloc: Global, fault: &ImageFault) -> Result<String, AllocErro
         ImageFault::BadShape(member) => format!(in alloc; "bad-shape {}", member.word()),
         ImageFault::OutOfRange(member) => format!(in alloc; "out-of-range {}", member.word()),
         ImageFault::TooLong | ImageFault::NotJson | ImageFault::Memory => {
-            String::from_str(alloc, name_image_fault(fault))
+            String::from_str(alloc, fault.word())
         }
     }
 }
@@ -102,26 +102,14 @@ fn name_fault(fault: &StreamFault) -> &'static str
     match fault {
         StreamFault::Read => "read",
         StreamFault::LineTooLong => "too-long",
-        StreamFault::BadMessage { at: _, fault } => name_image_fault(fault),
+        StreamFault::BadMessage { at: _, fault } => fault.word(),
         StreamFault::OutOfStep { .. } => "out-of-step",
         StreamFault::Memory => "memory",
         StreamFault::Failed => "read",
     }
 }
 
-fn name_image_fault(fault: &ImageFault) -> &'static str
-    ensures { result.now ≡ image_word fault.now }
-{
-    match fault {
-        ImageFault::TooLong => "too-long",
-        ImageFault::NotJson => "not-json",
-        ImageFault::Memory => "memory",
-        ImageFault::BadShape(_) => "bad-shape",
-        ImageFault::OutOfRange(_) => "out-of-range",
-    }
-}
-
-// What a writer's line says beside the word.
+// What a publisher's line says beside the word.
 fn format_detail(alloc: Global, fault: &StreamFault) -> Result<String, AllocError>
     ensures { IfOk result (λ text. string_bytes text ≡ stream_detail fault.now) }
 {

@@ -1,7 +1,7 @@
 //! Room for the records that replies keep: how much there is, and which line waits for it.
 
 ghost use Rattle.std.specs.Prelude.{◌≡◌, ◌==◌, ◌⊎◌, ◌<◌, ◌≤◌, ◌+◌, ◌-◌, ◌^◌, ◌↔◌, IsTrue, if◌then◌else◌};
-ghost use Rattle.pn_stay.specs.Rooms.{after_turn as becomes, given_in, kept_after, kept_for, let_in as lets_in, number_in, numbered, put_off_for, wanted_in};
+ghost use Rattle.pn_stay.specs.Looks.{after_turn as becomes, given_in, kept_after, kept_for, let_in as lets_in, number_in, numbered, put_off_for, wanted_in};
 ghost use Rattle.pn_stay.specs.declared.room.Room.TheVariants.{Given, Unasked};
 ghost use Rattle.pn_stay.specs.declared.room.TheConstants.{SMALL_REPLY};
 
@@ -79,13 +79,13 @@ impl Room {
     }
 
     /// After a turn in which a line was put off for `wanted` bytes, or none was. Room that was given is kept while the look for the reply to
-    /// its line goes on, which is that to `going`, if one does.
-    pub(crate) fn after_turn(self, wanted: Option<u64>, going: Option<u64>) -> Room
-        ensures { result ≡ becomes wanted going self }
+    /// its line goes on, which is that to `pending`, if one does.
+    pub(crate) fn after_turn(self, wanted: Option<u64>, pending: Option<u64>) -> Room
+        ensures { result ≡ becomes wanted pending self }
     {
         match wanted {
             Some(bytes) => self.put_off(bytes),
-            None => self.kept_after(going),
+            None => self.kept_after(pending),
         }
     }
 
@@ -100,22 +100,22 @@ impl Room {
     }
 
     // None was put off.
-    fn kept_after(self, going: Option<u64>) -> Room
-        ensures { result ≡ kept_after going self }
+    fn kept_after(self, pending: Option<u64>) -> Room
+        ensures { result ≡ kept_after pending self }
     {
-        match going {
+        match pending {
             Some(line) => self.kept_for(line),
             None => Room::Unasked,
         }
     }
 
     // Room that was given is kept for its line.
-    fn kept_for(self, going: u64) -> Room
-        ensures { result ≡ kept_for going self }
+    fn kept_for(self, pending: u64) -> Room
+        ensures { result ≡ kept_for pending self }
     {
         match self {
             Room::Unasked | Room::Wanted { .. } => Room::Unasked,
-            Room::Given { line, bytes } => given_if(line == going, line, bytes),
+            Room::Given { line, bytes } => given_if(line == pending, line, bytes),
         }
     }
 }

@@ -4,16 +4,12 @@ ghost use Rattle.std.specs.Prelude.{◌≡◌, ◌+◌, ◌≤◌, false, map, i
 ghost use Rattle.pn_live.specs.Prelude.{tablets_in, tablets_of, IsNewLive};
 ghost use Rattle.pn_stream.specs.Brokers.{IsHonest};
 ghost use Rattle.pn_stream.specs.Prelude.{BrokerRecord};
-ghost use Rattle.pn_serve.specs.declared.server.limits.TheConstants.{MAX_SESSIONS};
+ghost use Rattle.pn_serve.specs.declared.server.session_threads.TheConstants.{MAX_SESSIONS};
 ghost use Rattle.pn_live.specs.declared.region.opening.TheConstants.{MAX_READERS};
-ghost use Rattle.pn_serve.specs.Server.Events.{ReadsBesides};
-ghost use Rattle.pn_serve.specs.Server.Honest.{AreHonestWriters};
-ghost use Rattle.pn_serve.specs.Server.Reading.{ReadsStreams};
-ghost use Rattle.pn_serve.specs.Server.Sent.{IsSent};
-ghost use Rattle.pn_serve.specs.Server.Sessions.{AllRead};
+ghost use Rattle.pn_serve.specs.Server.Events.{ReadsBesides, ReadsStreams, AllRead};
+ghost use Rattle.pn_serve.specs.Server.Publishers.{AreHonestPublishers, IsSent};
 
 mod accepting;
-mod control_buffers;
 mod control_client;
 mod control_threads;
 pub(crate) mod ending;
@@ -31,8 +27,8 @@ use crate::server::threads::start_answering;
 use pn_line::Source;
 use pn_live::{LiveReader, LiveRegion};
 use pn_serve::{
-    Acceptor, Counter, MAX_CONTROLS, OpenedRegion, Origin, ReadingEnd, Sending, ServeFault,
-    SessionThread, Settings, Stream, TimeCounters, Watchers, open_region, read_streams,
+    MAX_CONTROLS, OpenedRegion, Origin, ReadingEnd, Sending, ServeFault, SessionThread, Settings,
+    Stream, Watchers, open_region, read_streams,
 };
 use pn_tablet::Layout;
 use std::alloc::{AllocError, Global};
@@ -59,7 +55,7 @@ impl Model for StayingServer {
     ghost use Rattle.std.specs.Prelude.{◌≡◌, ◌+◌, ◌≤◌, is_some, vec_len, vec_capacity, All};
     ghost use Rattle.pn_apply.specs.declared.reducing.TheConstants.{MAX_WORKERS};
     ghost use Rattle.pn_live.specs.Prelude.{tablets_in, tablets_of};
-    ghost use Rattle.pn_serve.specs.Server.Sessions.{AllRead};
+    ghost use Rattle.pn_serve.specs.Server.Events.{AllRead};
     ghost use Rattle.pn_stay.specs.Servers.{ServerValue, server_code};
 
     ghost Value = { ServerValue };
@@ -98,8 +94,7 @@ impl StayingServer {
         } else {
             0
         };
-        let (live, readers) = open_for(rt, alloc, layout, threads + controls)?;
-        let opened = OpenedRegion { live, readers };
+        let opened = open_for(rt, alloc, layout, threads + controls)?;
         let sizes = ServerSizes {
             threads,
             connections,
@@ -124,9 +119,9 @@ impl StayingServer {
         ensures alone { self.old.controlled ≡ false → ReadsStreams (IsSent M.known M.sends) (map (λ stream. stream.name) streams.items)
             self.old.live self.new.live result }
         ensures reads { ReadsBesides (IsSent M.known M.sends) (map (λ stream. stream.name) streams.items) self.old.live self.new.live result }
-        ensures honest { (broker : BrokerRecord) → M.known → AreHonestWriters broker M.sends
+        ensures honest { (broker : BrokerRecord) → M.known → AreHonestPublishers broker M.sends
             → ReadsBesides (IsHonest broker) (map (λ stream. stream.name) streams.items) self.old.live self.new.live result }
-        ensures honest_alone { self.old.controlled ≡ false → (broker : BrokerRecord) → M.known → AreHonestWriters broker M.sends
+        ensures honest_alone { self.old.controlled ≡ false → (broker : BrokerRecord) → M.known → AreHonestPublishers broker M.sends
             → ReadsStreams (IsHonest broker) (map (λ stream. stream.name) streams.items) self.old.live self.new.live result }
         ensures threads { self.new.threads ≡ self.old.threads }
         ensures controlled { self.new.controlled ≡ self.old.controlled }
@@ -170,15 +165,11 @@ where
     let control = acceptor.control.take();
     let controls = start_controls(rt, alloc, control, &kept.counters, beside, sizes.workers)?;
     let answering = start_answering(rt, alloc, acceptor, sizes.connections, live, readers)?;
+    let mut watchers = kept.watchers;
+    watchers.controls = controls.mailboxes;
     Ok(Started {
         running: answering.running,
-        watchers: Watchers {
-            rounds: kept.rounds,
-            times: kept.times,
-            shortage: kept.shortage,
-            waiting: kept.waiting,
-            controls: controls.mailboxes,
-        },
+        watchers,
         stopping: Stopping {
             listener: kept.listener,
             control: controls.listener,
@@ -192,28 +183,34 @@ where
 // What a server keeps of its acceptor.
 #[derive(Drop)]
 struct KeptHandles {
-    rounds: Option<Arc<Counter>>,
-    times: Option<Arc<TimeCounters>>,
-    shortage: Option<Arc<Counter>>,
-    waiting: Option<Arc<Counter>>,
+    watchers: Watchers,
     listener: Listener,
     counters: Arc<Counters>,
 }
 
 fn keep_handles(acceptor: &SocketAcceptor) -> io::Result<KeptHandles> {
-    let rounds = acceptor.round_counter();
-    let times = Some(Arc::try_clone(&acceptor.counters.round_times)?);
-    let shortage = Some(Arc::try_clone(&acceptor.counters.shortage)?);
-    let waiting = Some(Arc::try_clone(&acceptor.counters.waiting)?);
+    let watchers = watch_rounds(&acceptor.counters)?;
     let listener = acceptor.listener.try_clone()?;
     let counters = Arc::try_clone(&acceptor.counters)?;
     Ok(KeptHandles {
-        rounds,
-        times,
-        shortage,
-        waiting,
+        watchers,
         listener,
         counters,
+    })
+}
+
+// Those who look at the rounds. No control session is among them so far.
+fn watch_rounds(counters: &Counters) -> Result<Watchers, AllocError> {
+    let rounds = Arc::try_clone(&counters.rounds)?;
+    let times = Arc::try_clone(&counters.round_times)?;
+    let shortage = Arc::try_clone(&counters.shortage)?;
+    let waiting = Arc::try_clone(&counters.waiting)?;
+    Ok(Watchers {
+        rounds: Some(rounds),
+        times: Some(times),
+        shortage: Some(shortage),
+        waiting: Some(waiting),
+        controls: None,
     })
 }
 
@@ -244,11 +241,11 @@ fn open_for<R: Wait>(
     alloc: Global,
     layout: Layout,
     threads: usize,
-) -> io::Result<(LiveRegion, Vec<LiveReader>)>
+) -> io::Result<OpenedRegion>
     requires { (1 ≤ threads) × (threads ≤ MAX_READERS) }
-    ensures is_new { IfOk result (λ opened. IsNewLive layout opened.0) }
-    ensures own { IfOk result (λ opened. AllRead (tablets_in opened.0) opened.1.items) }
-    ensures count { IfOk result (λ opened. vec_len opened.1 ≡ threads) }
+    ensures is_new { IfOk result (λ opened. IsNewLive layout opened.live) }
+    ensures own { IfOk result (λ opened. AllRead (tablets_in opened.live) opened.readers.items) }
+    ensures count { IfOk result (λ opened. vec_len opened.readers ≡ threads) }
 {
     match open_region(rt, alloc, layout, threads) {
         Ok(opened) => Ok(opened),

@@ -3,7 +3,7 @@
 ghost use Rattle.std.specs.Prelude.{◌≡◌, ◌≢◌, ◌⊎◌, false, true, Ok, IfErr, OnOk};
 ghost use Rattle.std.specs.Io.{ReadsAtMost, WritesAtMost};
 ghost use Rattle.std.specs.IoError.{error_kind};
-ghost use Rattle.pn_stay.specs.Failures.{NotesFailure};
+ghost use Rattle.pn_stay.specs.Loops.{NotesFailure};
 
 use crate::interrupts::is_interrupted;
 use libc::net::{POLLHUP, SHUT_RD, SHUT_RDWR, poll, shutdown};
@@ -231,7 +231,7 @@ impl Sink for TrackedSocket<'_> {
 
     ghost may_fail = { Unit {0} };
 
-    ghost is_handed_on = { λ _. Unit {0} };
+    ghost is_flushed = { λ _. Unit {0} };
 
     ghost has_failed = { λ socket. socket.has_failed ≡ true };
 
@@ -247,7 +247,7 @@ impl Sink for TrackedSocket<'_> {
         }
     }
 
-    fn hand_on(&mut self) -> Result<(), WriteFault> {
+    fn flush(&mut self) -> Result<(), WriteFault> {
         Ok(())
     }
 }

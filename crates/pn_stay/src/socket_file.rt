@@ -106,8 +106,9 @@ impl SocketFile {
         permissions: u32,
     ) -> Result<(Arc<SocketFile>, UnixListener), ListenFault> {
         let lock = lock_path(rt, alloc, path)?;
+        let path = String::from_str(alloc, path)?;
         let file = SocketFile {
-            path: String::from_str(alloc, path)?,
+            path,
             permissions,
             made: Mutex::new(None),
             lock,

@@ -2,7 +2,7 @@
 
 ghost use Rattle.std.specs.Prelude.{◌≡◌, ◌+◌, false, true, OnErr, OnOk, vec_len};
 
-use crate::connection_limit::{ConnectionLimit, Place};
+use crate::descriptors::{ConnectionLimit, Place};
 use crate::socket::Socket;
 use mio::Waker;
 use std::alloc::Global;
@@ -138,19 +138,19 @@ impl SocketMailbox {
     }
 
     /// Says that a quarter of a second is over, and wakes the thread.
-    pub(crate) fn tell_quarter<R: Wait>(&self, rt: &R) -> io::Result<()> {
+    pub(crate) fn wake_for_quarter<R: Wait>(&self, rt: &R) -> io::Result<()> {
         self.state.lock(rt).is_quarter_over = true;
         self.waker.wake()
     }
 
     /// Says that the thread is to end once the lines that have come are answered, and wakes it.
-    pub(crate) fn tell_stop<R: Wait>(&self, rt: &R) -> io::Result<()> {
+    pub(crate) fn wake_to_stop<R: Wait>(&self, rt: &R) -> io::Result<()> {
         self.state.lock(rt).stop();
         self.waker.wake()
     }
 
     /// Says that the thread is to answer nothing more, and wakes it.
-    pub(crate) fn tell_cut<R: Wait>(&self, rt: &R) -> io::Result<()> {
+    pub(crate) fn wake_to_cut<R: Wait>(&self, rt: &R) -> io::Result<()> {
         self.state.lock(rt).cut();
         self.waker.wake()
     }

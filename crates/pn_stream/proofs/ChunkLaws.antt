@@ -3,10 +3,9 @@ use Rattle.std.proofs.Common.{◌≡◌, ◌≢◌, ℕ, suc, ◌+◌, ◌<◌, 
 use Rattle.std.proofs.Math.Seq.{drop-append_seam}
 use Rattle.std.proofs.lemmas.List.{drop_all, take_more}
 use Rattle.std.proofs.lemmas.List.Elements.{All-get_or}
-use Rattle.pn_record.specs.declared.image.Image.{Image}
-use Rattle.pn_stream.specs.Streams.{InStep}
-use Rattle.pn_stream.specs.Faults.{Refuses}
-use Rattle.pn_stream.specs.Lines.{IsWhole, AddsMessage, StopsAt, IsRead}
+use Rattle.pn_record.specs.declared.records.Image.{Image}
+use Rattle.pn_stream.specs.Streams.{InStep, Refuses}
+use Rattle.pn_stream.specs.Batches.{IsWhole, AddsMessage, StopsAt, IsRead}
 use Rattle.pn_stream.specs.declared.fault.StreamFault.{StreamFault}
 use Rattle.pn_stream.specs.declared.fault.StreamFault.TheVariants.{Read, LineTooLong, BadMessage, OutOfStep, Memory, Failed}
 use Rattle.pn_stream.proofs.Runs.{InStep-push, InStep-append}

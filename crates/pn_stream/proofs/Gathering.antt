@@ -1,17 +1,13 @@
 -- Lines that are taken from a text, one after another, and the batch that their messages are.
 use Rattle.std.proofs.Common.{◌≡◌, ◌≢◌, ℕ, ◌+◌, ◌<◌, ◌≤◌, Bool, true, false, All, OnSome, List, [], ◌∷◌, ◌++◌, length, Option, None, Some, IfSome, inl, inr, refl, sym, ap, ◌∙◌, subst, arith, append_assoc, append-nil}
 use Rattle.std.proofs.lemmas.List.Elements.{All-head, All-tail}
-use Rattle.pn_line.specs.Line.{LineBufferValue}
-use Rattle.pn_line.specs.LineEnd.{ReadsTo}
-use Rattle.pn_line.specs.Reads.{HasShown}
+use Rattle.pn_line.specs.Line.{LineBufferValue, ReadsTo, HasShown}
 use Rattle.pn_line.specs.Text.{text_of}
 use Rattle.pn_line.specs.declared.reading.BoundedEnd.TheVariants.{Newline}
 use Rattle.pn_line.proofs.TextLaws.{text_of-nil, text_of-append, text_of-push}
-use Rattle.pn_record.specs.declared.image.Image.{Image}
-use Rattle.pn_stream.specs.Batches.{Batch, Ends, IsPart}
-use Rattle.pn_stream.specs.Faults.{IsOfText, Refuses, Stands}
-use Rattle.pn_stream.specs.Lines.{Gathered, IsNextLine, IsRead, IsWhole, LinesSoFar, StopsAt, first_fault}
-use Rattle.pn_stream.specs.Streams.{FirstLine, NoLine, IsLeft}
+use Rattle.pn_record.specs.declared.records.Image.{Image}
+use Rattle.pn_stream.specs.Batches.{Batch, Ends, IsPart, Gathered, IsNextLine, IsRead, IsWhole, LinesSoFar, StopsAt, first_fault}
+use Rattle.pn_stream.specs.Streams.{IsOfText, Refuses, Stands, FirstLine, NoLine, IsLeft}
 use Rattle.pn_stream.specs.declared.fault.StreamFault.{StreamFault}
 use Rattle.pn_stream.specs.declared.fault.StreamFault.TheVariants.{Read, LineTooLong, BadMessage, OutOfStep, Memory, Failed}
 use Rattle.pn_stream.specs.declared.lines.NextLine.{NextLine}

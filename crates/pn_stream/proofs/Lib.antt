@@ -1,10 +1,7 @@
-pub mod Attempts
 pub mod ChunkLaws
-pub mod FirstMessage
 pub mod Gathering
 pub mod Published
 pub mod Runs
 pub mod SameBatch
 pub mod SameMessage
 pub mod Steps
-pub mod TwoCalls

@@ -7,10 +7,9 @@ use Rattle.std.specs.FinMap.{find}
 use Rattle.std.proofs.lemmas.List.{length-take, length-drop, get_or-take, get_or-drop}
 use Rattle.std.proofs.lemmas.List.Elements.{Contains-append_left, Contains-append_right, Contains-append_cases}
 use Rattle.pn_join.specs.Marks.{Positions, name_cmp, position_of}
-use Rattle.pn_record.specs.declared.image.Image.{Image}
-use Rattle.pn_record.proofs.HeldRecords.{tied_keys}
-use Rattle.pn_stream.specs.Positions.{DeliveryValue}
-use Rattle.pn_stream.specs.Brokers.{BrokerRecord, up_to, IsHonest}
+use Rattle.pn_record.specs.declared.records.Image.{Image}
+use Rattle.pn_record.proofs.CellMaps.{tied_keys}
+use Rattle.pn_stream.specs.Brokers.{DeliveryValue, BrokerRecord, up_to, IsHonest}
 
 -- the image is in the list before the index n
 pub record Stands (images : List Image) (n : ℕ) (image : Image) : Type 0 where

@@ -1,17 +1,52 @@
--- How runs of messages grow, one line after another.
-use Rattle.std.proofs.Common.{◌≡◌, ◌≢◌, ℕ, ◌+◌, ◌<◌, ◌≤◌, Bool, true, false, Contains, OnSome, List, [], ◌∷◌, ◌++◌, length, Option, None, Some, Result, Ok, Err, IfErr, IsErrAnd, IfSome, inl, inr, refl, sym, ap, ◌∙◌, subst, arith, append_assoc}
+-- How runs of messages grow, one line, one attempt and one call after another.
+use Rattle.std.proofs.Common.{◌≡◌, [], ◌∷◌, ◌++◌, Result, Ok, Err, IfOk, OnErr, refl, ◌∙◌, subst, ◌≢◌, ℕ, ◌+◌, ◌<◌, ◌≤◌, Bool, true, false, Contains, OnSome, List, length, Option, None, Some, IfErr, IsErrAnd, IfSome, inl, inr, sym, ap, arith, append_assoc, length-append, zero, suc, ◌^◌, pred, nat_le}
+use Rattle.std.proofs.lemmas.Fn.{FoldsTo-push, chained_keeps}
 use Rattle.std.proofs.lemmas.List.Elements.{All-contains, Contains-append_right}
-use Rattle.pn_line.specs.Reads.{IsUnbroken, HasShown}
+use Rattle.std.proofs.lemmas.Bool.{and_parts}
+use Rattle.pn_line.specs.Line.{IsUnbroken, HasShown}
 use Rattle.pn_line.specs.Text.{text_of}
 use Rattle.pn_line.proofs.TextLaws.{text_of-nil, text_of-append, text_of-push}
-use Rattle.pn_record.specs.declared.image.Image.{Image}
-use Rattle.pn_stream.specs.MessageLines.{IsMessageLine}
-use Rattle.pn_stream.specs.Streams.{InStep, Run, FirstLine, NoLine, IsLeft}
-use Rattle.pn_stream.specs.Faults.{Stands}
-use Rattle.pn_stream.specs.Batches.{SoFar, Batch, IsNext}
+use Rattle.pn_join.specs.declared.memory.NoMemory.{NoMemory}
+use Rattle.pn_join.specs.Marks.{is_position}
+use Rattle.pn_record.specs.declared.records.Image.{Image}
+use Rattle.pn_stream.specs.Calls.{FailedSoFar, MadeAtLast, IsCall, IsResumed}
+use Rattle.pn_stream.specs.Messages.{IsMessageLine}
+use Rattle.pn_stream.specs.Streams.{InStep, Run, FirstLine, NoLine, IsLeft, Stands}
+use Rattle.pn_stream.specs.Batches.{SoFar, Batch, IsNext, Ends, Stream}
 use Rattle.pn_stream.specs.declared.fault.StreamFault.{StreamFault}
 use Rattle.pn_stream.specs.declared.next.NextMessage.{NextMessage}
 use Rattle.pn_stream.specs.declared.fault.StreamFault.TheVariants.{Memory}
+use Rattle.pn_stream.specs.Brokers.{DeliveryValue}
+
+-- What attempts keep of the first, and what the last one makes.
+
+module _ {F T : Type 0} {step : F → Result T NoMemory → F → Type 0} where
+  -- memory ran out for one more
+  pub one_more : (first before : F) (answer : Result T NoMemory) (fault : NoMemory) (last : F) → FailedSoFar step first before → step before answer last → answer ≡ Err fault → FailedSoFar step first last
+  one_more first before answer fault last so_far again is =
+      record { faults = so_far.faults ++ fault ∷ []; failed = FoldsTo-push _ _ _ _ _ _ so_far.failed (subst (λ a. step before a last) is again) }
+
+  -- what each of those that memory ran out for keeps
+  failed_keep : (Keeps : F → F → Type 0) (first last : F) → FailedSoFar step first last → Keeps first first
+      → ((before : F) (answer : Result T NoMemory) (after : F) → step before answer after → Keeps first before → Keeps first after) → Keeps first last
+  failed_keep Keeps first last so_far same keeps =
+      chained_keeps _ (λ faults f. Keeps first f) (λ faults f fault g before again. keeps f (Err fault) g again before) so_far.faults first last same so_far.failed
+
+  -- what each of all keeps
+  pub attempts_keep : {first last : F} (answer : Result T NoMemory) → IfOk answer (λ made. MadeAtLast step first made last) → OnErr answer (FailedSoFar step first last)
+      → (Keeps : F → F → Type 0) → Keeps first first → ((before : F) (answer : Result T NoMemory) (after : F) → step before answer after → Keeps first before → Keeps first after) → Keeps first last
+  attempts_keep {first} {last} (Ok made) is failed Keeps same keeps = keeps is.before (Ok made) last is.makes (failed_keep Keeps first is.before is.failed same keeps)
+  attempts_keep {first} {last} (Err fault) is failed Keeps same keeps = failed_keep Keeps first last failed same keeps
+
+  -- where each leaves all as it was, the last one makes what the first could have made
+  pub makes_anew : (first last : F) (answer : Result T NoMemory) (P : T → Type 0) → IfOk answer (λ made. MadeAtLast step first made last)
+      → ((before : F) (answer : Result T NoMemory) (after : F) → step before answer after → after ≡ before) → ((made : T) (after : F) → step first (Ok made) after → P made) → IfOk answer P
+  makes_anew first last (Ok made) P is same makes =
+      let kept : is.before ≡ first = failed_keep (λ f g. g ≡ f) first is.before is.failed refl (λ before answer after s kept. same before answer after s ∙ kept) in
+      makes made last (subst (λ f. step f (Ok made) last) kept is.makes)
+  makes_anew first last (Err fault) P is same makes = tt
+
+-- How runs of messages grow, one line after another.
 
 -- one message more at the end
 pub InStep-push : (position : ℕ) (lines : List (List ℕ)) (images : List Image) (line : List ℕ) (image : Image) (wanted : ℕ) → wanted ≡ position + length images + 1
@@ -144,7 +179,76 @@ Stands-first least most position part images fault now (Some text) leaves none b
     let at : position + length images + 1 ≡ position + 1 = omega (arith, none) in
     subst (λ (t : List ℕ). Stands (position + 1) t fault) (sym all) (subst (λ (n : ℕ). Stands n batch.rest fault) at batch.ends.1)
 
--- what holds of the fault that a call handed on
-pub handed_on : {T E : Type 0} (answer : Result T E) (fault : E) (P : E → Type 0) → IsErrAnd answer (λ other. other ≡ fault) → P fault → IfErr answer P
-handed_on (Ok value) fault P is holds = tt
-handed_on (Err other) fault P is holds = subst P (sym is) holds
+-- what holds of the fault that a call passed on
+pub passed_on : {T E : Type 0} (answer : Result T E) (fault : E) (P : E → Type 0) → IsErrAnd answer (λ other. other ≡ fault) → P fault → IfErr answer P
+passed_on (Ok value) fault P is holds = tt
+passed_on (Err other) fault P is holds = subst P (sym is) holds
+
+-- What two calls give, one after another, is what one call gives.
+
+-- where the second call ends, both end
+both_end : (before fewest max count all position : ℕ) (rest : List ℕ) (fault : Option StreamFault) (piece : List ℕ) (leaves : Option (List ℕ)) → all ≡ before + count
+    → Ends fewest max count (position + before) rest fault piece leaves → Ends (before + fewest) (before + max) all position rest fault piece leaves
+both_end before fewest max count all position rest None piece leaves is ends = elim ends.0 [
+  | inl enough ↦ (inl (omega (arith, is, enough.0), enough.1), ends.1)
+  | inr few ↦ (inr (omega (arith, is, few.0), few.1), ends.1)
+]
+both_end before fewest max count all position rest (Some fault) piece leaves is ends =
+    let at : position + before + count + 1 ≡ position + all + 1 = omega (arith, is) in
+    (omega (arith, is, ends.0), subst (λ (n : ℕ). Stands n rest fault) at ends.1)
+
+-- what one call gives and then another is what one call gives that asks for as many more
+pub two_calls : (least most fewest max position : ℕ) (text part piece : List ℕ) (one other : List Image) (fault : Option StreamFault) (left leaves : Option (List ℕ))
+    → Batch least most position text one None part left → IfSome left (λ rest. Batch fewest max (position + length one) (part ++ rest) other fault piece leaves)
+    → Batch (length one + fewest) (length one + max) position text (one ++ other) fault piece leaves
+two_calls least most fewest max position text part piece one other fault left leaves first told =
+    let second = on_rest first.rest part left (λ (t : List ℕ). Batch fewest max (position + length one) t other fault piece leaves) first.ends.1 told in
+    let all = length-append one other in
+    record {
+      rest = second.rest;
+      within = omega (arith, all, second.within);
+      run = Run-append position text first.rest second.rest one other first.run second.run;
+      ends = both_end (length one) fewest max (length other) (length (one ++ other)) position second.rest fault piece leaves all second.ends;
+    }
+
+-- A publisher's first message is a batch of one, and what is read after it goes on with it.
+
+-- one past the position before it is the position
+pred_is : (n : ℕ) → 1 ≤ n → n ≡ pred n + 1
+pred_is zero some = absurd (omega (arith, some))
+pred_is (suc n) some = omega arith
+
+least_position : (n : ℕ) → is_position n ≡ true → 1 ≤ n
+least_position n in_range = grind (arith, (and_parts (nat_le 1 n) (nat_le n (10 ^ 15)) in_range).0)
+
+-- the first message alone is a batch that begins just before it
+pub Batch-first : (front now : List ℕ) (found : NextMessage) (images : List Image) (left leaves : Option (List ℕ)) → images ≡ found.image ∷ [] → now ≡ [] → is_position found.at ≡ true
+    → IfSome left (λ text. IsNext (front ++ text) (Some found) now leaves) → IfSome left (λ text. Batch 1 1 (pred found.at) (front ++ text) images None now leaves)
+Batch-first front now found images None leaves is taken in_range next = tt
+Batch-first front now found images (Some text) leaves is taken in_range next =
+    let (line, more, at, said, is_left) = next in
+    let place : found.at ≡ pred found.at + 0 + 1 = omega (arith, pred_is found.at (least_position found.at in_range)) in
+    let run : Run (pred found.at) (front ++ text) (found.image ∷ []) more =
+    Run-push (pred found.at) (front ++ text) [] (front ++ text) line more found.image found.at place (Run-none (pred found.at) (front ++ text)) at said in
+    rw is (record { rest = more; within = omega arith; run = run; ends = (inl (omega arith, taken), is_left) })
+
+-- a batch of one message at `at`, and a batch after it, are one batch that begins just before the first
+then_more : (least most at : ℕ) (front part piece : List ℕ) (one other : List Image) (fault : Option StreamFault) (first left leaves : Option (List ℕ)) → 1 ≤ at → length one ≡ 1
+    → IfSome first (λ text. Batch 1 1 (pred at) (front ++ text) one None part left) → IfSome left (λ rest. Batch least most at (part ++ rest) other fault piece leaves)
+    → IfSome first (λ text. Batch (1 + least) (1 + most) (pred at) (front ++ text) (one ++ other) fault piece leaves)
+then_more least most at front part piece one other fault None left leaves some is begins told = tt
+then_more least most at front part piece one other fault (Some text) left leaves some is begins told =
+    let here : at ≡ pred at + length one = omega (arith, pred_is at some, is) in
+    let next = subst (λ (n : ℕ). IfSome left (λ rest. Batch least most n (part ++ rest) other fault piece leaves)) here told in
+    subst (λ (n : ℕ). Batch (n + least) (n + most) (pred at) (front ++ text) (one ++ other) fault piece leaves) is
+    (two_calls 1 1 least most (pred at) (front ++ text) part piece one other fault left leaves begins next)
+
+-- the first message and what a call gives after it are what one call gives that begins just before that message
+pub one_run : {S : Type 0} (left : S → Option (List ℕ)) (may_fail : Type 0) (least most : ℕ) (old begun new : Stream S) (first next : DeliveryValue)
+    → IsResumed left may_fail old (Ok (Some first)) begun → IsCall left may_fail least most begun (Ok next) new
+    → IfSome (left old.source) (λ text. Batch (1 + least) (1 + most) (pred first.first) (old.part ++ text) (first.images ++ next.images) new.fault new.part (left new.source))
+one_run left may_fail least most old begun new first next resumed call =
+    let at : first.first ≡ begun.position = ap (λ (d : DeliveryValue). d.first) resumed.finds.value in
+    subst (λ (n : ℕ). IfSome (left old.source) (λ text. Batch (1 + least) (1 + most) (pred n) (old.part ++ text) (first.images ++ next.images) new.fault new.part (left new.source))) (sym at)
+    (then_more least most begun.position old.part begun.part new.part first.images next.images new.fault (left old.source) (left begun.source) (left new.source)
+    resumed.finds.least resumed.finds.one resumed.finds.batch call.gives.batch)

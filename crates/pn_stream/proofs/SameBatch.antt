@@ -1,15 +1,13 @@
 -- Of one text there is one longest run, and one fault that ends it.
 use Rattle.std.proofs.Common.{◌≡◌, ◌≢◌, ℕ, ◌+◌, ◌-◌, ◌<◌, ◌≤◌, List, [], ◌∷◌, ◌++◌, length, Option, None, Some, Result, Ok, Err, inl, inr, ◌⊎◌, refl, sym, ap, ◌∙◌, subst, arith, append_assoc, length-append}
 use Rattle.std.proofs.lemmas.List.Elements.{All-head, All-tail}
-use Rattle.pn_line.specs.Reads.{IsUnbroken}
+use Rattle.pn_line.specs.Line.{IsUnbroken}
 use Rattle.pn_line.specs.Text.{text_of}
 use Rattle.pn_line.proofs.TextLaws.{text_of-nil, text_of-cons}
 use Rattle.pn_record.specs.declared.fault.ImageFault.{ImageFault}
-use Rattle.pn_record.specs.declared.image.Image.{Image}
-use Rattle.pn_stream.specs.Messages.{Message, message_at}
-use Rattle.pn_stream.specs.MessageLines.{IsMessageLine}
-use Rattle.pn_stream.specs.Streams.{InStep, FirstLine, NoLine}
-use Rattle.pn_stream.specs.Faults.{Refuses, RefusedLine, LongLine, Stands, IsOfText}
+use Rattle.pn_record.specs.declared.records.Image.{Image}
+use Rattle.pn_stream.specs.Messages.{Message, message_at, IsMessageLine}
+use Rattle.pn_stream.specs.Streams.{InStep, FirstLine, NoLine, Refuses, RefusedLine, LongLine, Stands, IsOfText}
 use Rattle.pn_stream.specs.Batches.{Batch, Ends}
 use Rattle.pn_stream.specs.declared.fault.StreamFault.{StreamFault}
 use Rattle.pn_stream.specs.declared.fault.StreamFault.TheVariants.{Read, LineTooLong, BadMessage, OutOfStep, Memory, Failed}

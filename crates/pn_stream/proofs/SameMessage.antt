@@ -7,25 +7,21 @@ use Rattle.serde_json.specs.Data.{Data, number, unsigned, object, Members, no_me
 use Rattle.serde_json.specs.Find.{get, get_member, as_object}
 use Rattle.serde_json.specs.View.{members_view}
 use Rattle.serde_json.specs.declared.value.Value.{Value}
-use Rattle.pn_record.specs.Canonical.{is_image}
+use Rattle.pn_record.specs.Reading.{is_image, body_rises}
 use Rattle.pn_join.specs.Marks.{is_position}
 use Rattle.std.specs.Option.{ok_or}
 use Rattle.pn_json.specs.Answers.{fault_as}
 use Rattle.pn_json.specs.Members.{whole_number, member_as, only_named, no_others}
 use Rattle.pn_record.specs.Grammar.{shape_in as image_shape_in, ranges_in as image_ranges_in, image_in}
 use Rattle.pn_record.specs.declared.fault.Member.TheVariants as fault
-use Rattle.pn_record.specs.declared.image.Image.{Image}
-use Rattle.pn_record.specs.Seen.{body_rises}
+use Rattle.pn_record.specs.declared.records.Image.{Image}
 use Rattle.pn_record.specs.Writing.{image_data}
-use Rattle.pn_json.proofs.Inverses.{bind_ok, ok_or_ok, passed, and_then_some, object_from_as_object, number_from_whole}
-use Rattle.pn_record.proofs.Lines.{line_again, line_unique}
-use Rattle.pn_record.proofs.Limiting.{in_ranges, image_from_ranges}
-use Rattle.pn_json.proofs.LookUps.{Rise, Rise-map, get_member-unnamed, same_members, or_elsewhere}
+use Rattle.pn_json.proofs.LookUps.{bind_ok, ok_or_ok, passed, and_then_some, object_from_as_object, number_from_whole, Rise, Rise-map, get_member-unnamed, same_members, or_elsewhere}
+use Rattle.pn_record.proofs.ImageLines.{line_again, line_unique}
+use Rattle.pn_record.proofs.SameImage.{in_ranges, image_from_ranges, shape_again}
 use Rattle.pn_record.proofs.ImageParts.{is_there}
 use Rattle.pn_record.proofs.ReadImages.{named_ok}
-use Rattle.pn_record.proofs.SameImage.{shape_again}
-use Rattle.pn_stream.specs.Messages.{Message, message_members, shape_in, ranges_in, message_in, message_at}
-use Rattle.pn_stream.specs.MessageLines.{message_data, IsMessage, IsMessageLine}
+use Rattle.pn_stream.specs.Messages.{Message, message_members, shape_in, ranges_in, message_in, message_at, message_data, IsMessage, IsMessageLine}
 
 -- the members of a message's JSON
 abbrev members_of : Data → Data → Members

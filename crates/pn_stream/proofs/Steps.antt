@@ -2,22 +2,17 @@
 use Rattle.std.proofs.Common.{◌≡◌, ◌≢◌, ℕ, ◌≤◌, ◌^◌, List, [], ◌∷◌, ◌++◌, length, Bool, Option, None, Some, IfSome, Result, Ok, Err, IfOk, IfErr, nat_le, refl, sym, ap, ◌∙◌, subst, arith, append_assoc}
 use Rattle.std.proofs.lemmas.Bool.{and_parts}
 use Rattle.std.proofs.lemmas.List.Elements.{All-nil, All-append}
-use Rattle.pn_line.specs.Line.{LineBufferValue, with_bytes, so_far}
-use Rattle.pn_line.specs.LineEnd.{ReadsTo}
-use Rattle.pn_line.specs.Reads.{IsUnbroken, Takes}
+use Rattle.pn_line.specs.Line.{LineBufferValue, with_bytes, so_far, ReadsTo, IsUnbroken, Takes}
 use Rattle.pn_line.specs.declared.reading.BoundedEnd.{BoundedEnd}
 use Rattle.pn_line.specs.declared.reading.BoundedEnd.TheVariants.{Newline, EndOfInput, TooLong}
 use Rattle.pn_line.proofs.LineLaws.{kept_bytes-short, kept_bytes-nil, so_far-append}
-use Rattle.pn_line.proofs.KnownLaws.{ReadsPart-from_takes, text_of-read_end}
-use Rattle.pn_record.specs.declared.image.Image.{Image}
-use Rattle.pn_stream.specs.MessageLines.{IsMessageLine}
-use Rattle.pn_stream.specs.Streams.{FirstLine, NoLine}
+use Rattle.pn_line.proofs.TextLaws.{ReadsPart-from_takes, text_of-read_end}
+use Rattle.pn_record.specs.declared.records.Image.{Image}
+use Rattle.pn_stream.specs.Messages.{IsMessageLine, Message, message_at}
+use Rattle.pn_stream.specs.Streams.{FirstLine, NoLine, line_ended, message_due, Refuses, Stands}
 use Rattle.pn_record.specs.declared.fault.ImageFault.{ImageFault}
 use Rattle.pn_record.specs.declared.fault.ImageFault.TheVariants as image
 use Rattle.pn_json.specs.Answers.{IsUnless}
-use Rattle.pn_stream.specs.Messages.{Message, message_at}
-use Rattle.pn_stream.specs.Steps.{line_ended, message_due}
-use Rattle.pn_stream.specs.Faults.{Refuses, Stands}
 use Rattle.pn_stream.specs.Batches.{IsPart, IsNext, part_of}
 use Rattle.pn_stream.specs.declared.fault.StreamFault.{StreamFault}
 use Rattle.pn_stream.specs.declared.next.NextMessage.{NextMessage}

@@ -1,9 +1,23 @@
--- What brokers published, and deliveries that are honest about it.
-use Rattle.std.specs.Prelude.{◌≡◌, ℕ, ◌≤◌, pred, List, length, take, drop, Contains}
+-- The positions of a stream, deliveries, what brokers published, and deliveries that are honest about it.
+use Rattle.std.specs.Prelude.{ℕ, ◌+◌, Bool, ◌&&◌, nat_le, List, ◌≡◌, ◌≤◌, pred, length, take, drop, Contains}
 use Rattle.std.specs.List.{flat_map}
-use Rattle.pn_join.specs.Marks.{Positions, position_of}
-use Rattle.pn_record.specs.declared.image.Image.{Image}
-use Rattle.pn_stream.specs.Positions.{DeliveryValue}
+use Rattle.pn_join.specs.Marks.{is_position, Positions, position_of}
+use Rattle.pn_join.specs.declared.marks.TheConstants.{LAST_POSITION}
+use Rattle.pn_record.specs.declared.records.Image.{Image}
+
+-- The positions of a stream, and deliveries.
+
+-- the positions of `count` images from the first on are those of a stream
+abbrev pub are_positions : ℕ → ℕ → Bool
+are_positions first count = is_position first && nat_le (first + count) (LAST_POSITION + 1)
+
+-- images of a stream at consecutive positions from the first on
+pub record DeliveryValue : Type 0 where
+  pub stream : List ℕ
+  pub first : ℕ
+  pub images : List Image
+
+-- What brokers published, and deliveries that are honest about it.
 
 -- a broker record: for each stream name one list of images, the first of which has position 1
 abbrev pub BrokerRecord : Type 0

@@ -1,13 +1,6 @@
-pub mod Attempts
 pub mod Batches
 pub mod Brokers
 pub mod Calls
-pub mod Faults
-pub mod Lines
-pub mod MessageLines
 pub mod Messages
-pub mod Positions
 pub mod Prelude
-pub mod Resuming
-pub mod Steps
 pub mod Streams

@@ -1,18 +1,21 @@
--- The message of a JSON value: first the shapes of its members, then their ranges.
-use Rattle.std.specs.Prelude.{ℕ, not, if◌then◌else◌, List, [], ◌∷◌, codes, Result, Ok, Err}
+-- The message of a JSON value: first the shapes of its members, then their ranges; and messages as JSON values and as lines.
+use Rattle.std.specs.Prelude.{ℕ, not, if◌then◌else◌, List, [], ◌∷◌, codes, Result, Ok, Err, ◌≡◌, IsTrue}
 use Rattle.std.specs.Option.{ok_or}
-use Rattle.serde_json.specs.Data.{Data}
+use Rattle.serde_json.specs.Data.{Data, number, object, unsigned, no_members, member}
 use Rattle.serde_json.specs.Find.{get, as_object}
+use Rattle.pn_join.specs.Marks.{is_position}
 use Rattle.pn_json.specs.Answers.{◌>>=◌, fault_as}
 use Rattle.pn_json.specs.Members.{whole_number, member_as, no_others}
 use Rattle.pn_record.specs.Grammar.{shape_in as image_shape_in, ranges_in as image_ranges_in}
-use Rattle.pn_record.specs.Reading.{value_at}
-use Rattle.pn_record.specs.declared.image.Image.{Image}
+use Rattle.pn_record.specs.Reading.{value_at, IsLine, is_image}
+use Rattle.pn_record.specs.declared.records.Image.{Image}
 use Rattle.pn_record.specs.declared.fault.Member.{Member}
-use Rattle.pn_record.specs.declared.fault.Member.TheVariants as member
 use Rattle.pn_record.specs.declared.fault.ImageFault.{ImageFault}
 use Rattle.pn_record.specs.declared.fault.ImageFault.TheVariants.{BadShape, OutOfRange}
-use Rattle.pn_join.specs.Marks.{is_position}
+use Rattle.pn_record.specs.Writing.{image_data}
+use Rattle.pn_record.specs.declared.fault.Member.TheVariants as member
+
+-- The message of a JSON value: first the shapes of its members, then their ranges.
 
 -- a message: its position in the stream, and its image
 abbrev pub Message : Type 0
@@ -46,3 +49,20 @@ message_in d = do
 -- the message of a line
 unfoldable pub message_at : List ℕ → Result Message ImageFault
 message_at line = value_at line >>= message_in
+
+-- Messages as JSON values and as lines.
+
+-- the JSON of a message: the position and the image
+abbrev pub message_data : Message → Data
+message_data message =
+    object (member (codes "at") (number (unsigned message.0)) (member (codes "image") (image_data message.1) no_members))
+
+-- the value is the JSON of the message, whose position and image keep the limits
+pub record IsMessage (d : Data) (message : Message) : Type 0 where
+  pub value : d ≡ message_data message
+  pub position : IsTrue (is_position message.0)
+  pub limits : IsTrue (is_image message.1)
+
+-- the line is that of the message
+abbrev pub IsMessageLine : List ℕ → Message → Type 0
+IsMessageLine line message = IsLine IsMessage line message

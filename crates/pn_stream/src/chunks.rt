@@ -1,9 +1,9 @@
 //! Lines that several threads read, each a chunk of consecutive lines at the positions that follow from its number.
 
 ghost use Rattle.std.specs.Prelude.{◌≡◌, ◌⊎◌, ◌↔◌, [], ◌++◌, None, Some, IfOk, IfErr, OnOk, OnErr, IsSome, IsTrue};
-ghost use Rattle.pn_stream.specs.Faults.{Refuses};
-ghost use Rattle.pn_stream.specs.Lines.{AddsMessage, CanBeRead, IsRead};
-ghost use Rattle.pn_stream.specs.MessageLines.{IsMessageLine};
+ghost use Rattle.pn_stream.specs.Streams.{Refuses};
+ghost use Rattle.pn_stream.specs.Batches.{AddsMessage, CanBeRead, IsRead};
+ghost use Rattle.pn_stream.specs.Messages.{IsMessageLine};
 
 use crate::fault::StreamFault;
 use crate::lines::WholeLine;

@@ -38,7 +38,7 @@ impl From<NoMemory> for StreamFault {
     }
 }
 
-/// Why a reader gives no first message of a writer.
+/// Why a reader gives no first message of a publisher.
 #[derive(Clone, Copy, Debug, PartialEq, Eq, Error)]
 pub enum ResumeFault {
     /// As of any message, but never `OutOfStep`, unless an earlier call left it.

@@ -1,16 +1,12 @@
 //! The laws of streams, as contracts. A call does nothing.
 
 ghost use Rattle.std.specs.Prelude.{◌≡◌, ℕ, ◌+◌, pred, List, ◌++◌, length, All, Option, Some, None, Ok, IfSome};
-ghost use Rattle.pn_record.specs.declared.image.Image.{Image};
-ghost use Rattle.pn_stream.specs.Batches.{Stream, Batch};
-ghost use Rattle.pn_stream.specs.Calls.{IsCall};
-ghost use Rattle.pn_stream.specs.Faults.{IsOfText};
-ghost use Rattle.pn_stream.specs.Lines.{IsRead, IsWhole};
-ghost use Rattle.pn_stream.specs.MessageLines.{IsMessageLine};
-ghost use Rattle.pn_stream.specs.Messages.{Message};
-ghost use Rattle.pn_stream.specs.Positions.{DeliveryValue};
-ghost use Rattle.pn_stream.specs.Resuming.{IsResumed};
-ghost use Rattle.pn_stream.specs.Streams.{Run};
+ghost use Rattle.pn_record.specs.declared.records.Image.{Image};
+ghost use Rattle.pn_stream.specs.Batches.{Stream, Batch, IsRead, IsWhole};
+ghost use Rattle.pn_stream.specs.Calls.{IsCall, IsResumed};
+ghost use Rattle.pn_stream.specs.Streams.{IsOfText, Run};
+ghost use Rattle.pn_stream.specs.Messages.{IsMessageLine, Message};
+ghost use Rattle.pn_stream.specs.Brokers.{DeliveryValue};
 ghost use Rattle.pn_stream.specs.declared.fault.StreamFault.{StreamFault};
 
 use pn_line::Source;
@@ -62,9 +58,9 @@ pub fn chunks_make_no_difference()
         → IsOfText fault → IsOfText next → (one ≡ other) × (fault ≡ next) }
 {}
 
-/// What a writer's first message and a call after it give is what one call gives that begins just before that message:
+/// What a publisher's first message and a call after it give is what one call gives that begins just before that message:
 /// one run of messages in step from the first one on.
-pub fn a_writer_gives_one_run<S: Source + Drop>()
+pub fn a_publisher_gives_one_run<S: Source + Drop>()
     ensures { (least most : ℕ) (old begun new : Stream S) (first next : DeliveryValue)
         → IsResumed S.left S.may_fail old (Ok (Some first)) begun → IsCall S.left S.may_fail least most begun (Ok next) new
         → IfSome (S.left old.source) (λ text. Batch (1 + least) (1 + most) (pred first.first) (old.part ++ text)

@@ -3,7 +3,6 @@
 #![tactic(auto)]
 
 mod chunks;
-mod delivery;
 mod fault;
 mod first;
 pub mod laws;
@@ -13,8 +12,7 @@ mod message;
 mod next;
 mod reader;
 
-pub use delivery::{Delivery, positions_fit};
 pub use fault::{ResumeFault, StreamFault};
 pub use memory::{NoWait, ReaderMemory};
-pub use message::read_message;
+pub use message::{Delivery, positions_fit, read_message};
 pub use reader::{MAX_MESSAGES, StreamReader};

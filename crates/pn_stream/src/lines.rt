@@ -2,9 +2,8 @@
 
 ghost use Rattle.std.specs.Prelude.{◌≡◌, ℕ, ◌≤◌, [], ◌++◌, length, All, None, Some, IfOk, IfErr, IfSome, OnOk, OnErr, OnSome, IsErrOf, IsSome};
 ghost use Rattle.pn_line.specs.Prelude.{HasShown};
-ghost use Rattle.pn_stream.specs.Batches.{IsPart, part_of};
-ghost use Rattle.pn_stream.specs.Faults.{Stands};
-ghost use Rattle.pn_stream.specs.Lines.{Gathered, IsNextLine, IsWhole};
+ghost use Rattle.pn_stream.specs.Batches.{IsPart, part_of, Gathered, IsNextLine, IsWhole};
+ghost use Rattle.pn_stream.specs.Streams.{Stands};
 
 use crate::fault::StreamFault;
 use crate::memory::{ReaderMemory, make_in_memory, push_one};

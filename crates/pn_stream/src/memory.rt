@@ -1,7 +1,7 @@
 //! The memory of a reader, which may be waited for where it runs out.
 
 ghost use Rattle.std.specs.Prelude.{◌≡◌, ◌<◌, [], ◌∷◌, ◌++◌, false, vec_len, vec_capacity, IfOk, OnOk, OnErr};
-ghost use Rattle.pn_stream.specs.Attempts.{FailedSoFar, MadeAtLast};
+ghost use Rattle.pn_stream.specs.Calls.{FailedSoFar, MadeAtLast};
 ghost use Rattle.pn_line.specs.Prelude.{so_far};
 
 use pn_join::NoMemory;

@@ -1,20 +1,105 @@
-//! Messages of streams, read from lines.
+//! Messages of streams, read from lines, and the deliveries that they are.
 
-ghost use Rattle.std.specs.Prelude.{◌≡◌, ◌<◌, ◌↔◌, length, IfOk, IfErr, IsOk, IsErrOf, IsTrue};
+ghost use Rattle.std.specs.Prelude.{◌≡◌, ◌↔◌, length, IfSome, IsSome, IsTrue, ◌<◌, IfOk, IfErr, IsOk, IsErrOf};
+ghost use Rattle.pn_stream.specs.Brokers.{are_positions};
 ghost use Rattle.serde_json.specs.View.{view};
 ghost use Rattle.pn_json.specs.Prelude.{IsUnless};
 ghost use Rattle.pn_record.specs.Prelude.{IsOfValue, body_rises, max_line_bytes};
 ghost use Rattle.pn_join.specs.Prelude.{is_position as position_of};
-ghost use Rattle.pn_stream.specs.Messages.{Message, shape_in, ranges_in, message_in, message_at};
-ghost use Rattle.pn_stream.specs.MessageLines.{IsMessage, IsMessageLine, message_data};
+ghost use Rattle.pn_stream.specs.Messages.{Message, shape_in, ranges_in, message_in, message_at, IsMessage, IsMessageLine, message_data};
 
-use pn_join::{LAST_POSITION, NoMemory};
+use pn_join::{LAST_POSITION, NoMemory, StreamName};
 use pn_json::{check_names, member_from, whole_number_of};
 use pn_record::{
     Image, ImageFault, Member, UncheckedImage, image_from, read_value, unchecked_image,
 };
 use serde_json::Value;
 use std::alloc::Global;
+use std::marker::Model;
+
+/// Images of a stream at consecutive positions. Without images, the first position is the one that comes next, at
+/// most 10^15.
+#[derive(Debug, Drop)]
+pub struct Delivery {
+    stream: StreamName,
+    first: u64,
+    images: Vec<Image>,
+}
+
+impl Model for Delivery {
+    ghost use Rattle.std.specs.Prelude.{length, IsTrue};
+    ghost use Rattle.pn_stream.specs.Brokers.{DeliveryValue, are_positions};
+
+    ghost Value = { DeliveryValue };
+
+    ghost view = { λ d. record { stream = d.stream; first = d.first; images = d.images.items } };
+
+    ghost invariant = { λ d. IsTrue (are_positions d.first (length d.images.items)) };
+}
+
+impl Delivery {
+    /// The images from the position `first` on. None where `first` or the position of the last image is not
+    /// from 1 to 10^15.
+    pub fn new(stream: StreamName, first: u64, images: Vec<Image>) -> Option<Delivery>
+        ensures made { IfSome result
+            (λ delivery. delivery ≡ record { stream = stream; first = first; images = images.items }) }
+        ensures exactly { IsSome result ↔ IsTrue (are_positions first (length images.items)) }
+    {
+        if !positions_fit(first, images.len()) {
+            return None;
+        }
+        Some(Delivery::of(stream, first, images))
+    }
+
+    /// The images from the position `first` on, where `positions_fit` says that they fit.
+    pub fn of(stream: StreamName, first: u64, images: Vec<Image>) -> Delivery
+        requires fit { IsTrue (are_positions first (length images.items)) }
+        ensures made { result ≡ record { stream = stream; first = first; images = images.items } }
+    {
+        Delivery {
+            stream,
+            first,
+            images,
+        }
+    }
+
+    /// The name of the stream.
+    pub fn stream(&self) -> &StreamName
+        ensures { result.now ≡ self.now.stream }
+    {
+        &self.stream
+    }
+
+    /// The position of the first image, from 1 to 10^15.
+    pub fn first(&self) -> u64
+        ensures position { result ≡ self.now.first }
+        ensures in_range { IsTrue (are_positions self.now.first (length self.now.images)) }
+    {
+        self.first
+    }
+
+    /// The images, in the order of their positions.
+    pub fn images(&self) -> &[Image]
+        ensures { result.now ≡ self.now.images }
+    {
+        &self.images
+    }
+
+    /// The images themselves, in the order of their positions.
+    pub fn into_images(self) -> Vec<Image>
+        ensures { result.items ≡ self.images }
+    {
+        let Delivery { images, .. } = self;
+        images
+    }
+}
+
+/// Whether `first`, and the positions of `count` images from there on, are from 1 to 10^15.
+pub fn positions_fit(first: u64, count: usize) -> bool
+    ensures { result ≡ are_positions first count }
+{
+    1 <= first && first <= LAST_POSITION && count as u64 <= LAST_POSITION + 1 - first
+}
 
 /// The position, from 1 to 10^15, and the image of a message, `{"at":P,"image":I}`.
 ///

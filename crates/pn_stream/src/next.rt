@@ -1,13 +1,10 @@
 //! The next messages of a stream, read from the lines of its source.
 
-ghost use Rattle.std.specs.Prelude.{◌≡◌, ◌≢◌, ℕ, ◌+◌, ◌<◌, ◌≤◌, false, [], ◌++◌, length, IfOk, IfErr, IfSome, OnOk, OnSome, OnErr, IsErrOf, IsSome, IsTrue};
-ghost use Rattle.pn_line.specs.Prelude.{HasShown};
-ghost use Rattle.pn_join.specs.Prelude.{is_position};
+ghost use Rattle.std.specs.Prelude.{◌≡◌, ◌≢◌, ℕ, ◌+◌, ◌<◌, ◌≤◌, false, [], ◌++◌, length, IfOk, IfErr, IfSome, OnOk, OnErr, IsErrOf, IsTrue};
 ghost use Rattle.pn_join.specs.declared.marks.TheConstants.{LAST_POSITION};
-ghost use Rattle.pn_stream.specs.Steps.{line_ended, message_due};
-ghost use Rattle.pn_stream.specs.MessageLines.{IsMessageLine};
-ghost use Rattle.pn_stream.specs.Faults.{Refuses, Stands};
-ghost use Rattle.pn_stream.specs.Batches.{Batch, IsPart, IsNext, part_of};
+ghost use Rattle.pn_stream.specs.Streams.{line_ended, message_due, Refuses, Stands};
+ghost use Rattle.pn_stream.specs.Messages.{IsMessageLine};
+ghost use Rattle.pn_stream.specs.Batches.{Batch, IsPart, IsNext, IsTaken, part_of};
 
 use crate::fault::StreamFault;
 use crate::memory::{ReaderMemory, make_in_memory, new_line, push_one};
@@ -76,8 +73,9 @@ pub(crate) fn next_images<S: Source, M: ReaderMemory>(
     let mut more = false;
     'images: while size.wants(images.len(), more) {
         let wanted = position + images.len() as u64 + 1;
-        match next_in_step(memory, &mut line, source, wanted)? {
+        match next_message(memory, &mut line, source, wanted)? {
             Some(next) => {
+                check_step(wanted, next.at)?;
                 more = next.more;
                 push_one(memory, images, next.image)?;
             }
@@ -109,35 +107,6 @@ pub(crate) fn take_line<M: ReaderMemory>(
     }
 }
 
-// The next message, which must have the position `wanted`. None where no whole line is left.
-fn next_in_step<S: Source, M: ReaderMemory>(
-    memory: &M,
-    line: &mut LineBuffer,
-    source: &mut S,
-    wanted: u64,
-) -> Result<Option<NextMessage>, StreamFault>
-    requires { IsPart line.old }
-    ensures next { IfOk result (λ found. IfSome (S.left source.old) (λ text.
-        IsNext (line.old.bytes ++ text) found line.new.bytes (S.left source.new))) }
-    ensures at { IfOk result (λ found. IfSome found (λ message. message.at ≡ wanted)) }
-    ensures taken { IfOk result (λ found. IsSome found → line.new.bytes ≡ []) }
-    ensures more { IfOk result (λ found. IfSome found (λ message.
-        OnSome (S.left source.old) (HasShown message.more (S.left source.new)))) }
-    ensures stands { IfErr result (λ fault. IfSome (S.left source.old) (λ text.
-        Stands wanted (line.old.bytes ++ text) fault)) }
-    ensures part { OnOk result (IsPart line.new) }
-    ensures position { IfOk result (λ found. IsSome found → wanted ≤ LAST_POSITION) }
-    ensures read { IsErrOf result StreamFault.Read → S.may_fail }
-    ensures gives_up { IsErrOf result StreamFault.Memory → M.may_give_up }
-    ensures not_failed { IsErrOf result StreamFault.Failed → ⊥ }
-{
-    let Some(next) = next_message(memory, line, source, wanted)? else {
-        return Ok(None);
-    };
-    check_step(wanted, next.at)?;
-    Ok(Some(next))
-}
-
 /// Whether the message at `at` has the position `wanted`.
 pub(crate) fn check_step(wanted: u64, at: u64) -> Result<(), StreamFault>
     ensures ok { OnOk result (at ≡ wanted) }
@@ -161,14 +130,12 @@ pub(crate) fn next_message<S: Source, M: ReaderMemory>(
     requires { IsPart line.old }
     ensures next { IfOk result (λ found. IfSome (S.left source.old) (λ text.
         IsNext (line.old.bytes ++ text) found line.new.bytes (S.left source.new))) }
-    ensures taken { IfOk result (λ found. IsSome found → line.new.bytes ≡ []) }
-    ensures more { IfOk result (λ found. IfSome found (λ message.
-        OnSome (S.left source.old) (HasShown message.more (S.left source.new)))) }
+    ensures taken { IfOk result (λ found. IfSome found (λ message.
+        IsTaken line.new.bytes (S.left source.old) (S.left source.new) message)) }
     ensures stands { IfErr result (λ fault. IfSome (S.left source.old) (λ text.
         Stands wanted (line.old.bytes ++ text) fault)) }
     ensures any_step { IfErr result (λ fault. (named got : ℕ) → fault ≢ StreamFault.OutOfStep named got) }
     ensures part { OnOk result (IsPart line.new) }
-    ensures position { IfOk result (λ found. IfSome found (λ message. IsTrue (is_position message.at))) }
     ensures read { IsErrOf result StreamFault.Read → S.may_fail }
     ensures gives_up { IsErrOf result StreamFault.Memory → M.may_give_up }
     ensures not_failed { IsErrOf result StreamFault.Failed → ⊥ }

@@ -1,18 +1,15 @@
 //! Readers of streams: the next messages of a stream in the order of their positions, however its bytes arrive.
 
-ghost use Rattle.std.specs.Prelude.{◌≡◌, ◌+◌, ◌≤◌, pred, [], ◌++◌, length, min, IfOk, IfErr, IfSome, OnOk, IsErrOf, IsTrue};
-ghost use Rattle.pn_join.specs.Prelude.{is_position};
+ghost use Rattle.std.specs.Prelude.{◌≡◌, ◌+◌, ◌≤◌, [], ◌++◌, length, min, IfOk, IfErr, IfSome, OnOk, IsErrOf, IsTrue};
 ghost use Rattle.pn_record.specs.Prelude.{max_line_bytes};
-ghost use Rattle.pn_stream.specs.Batches.{Batch};
-ghost use Rattle.pn_stream.specs.Calls.{GivesUp, IsCall, Takes};
-ghost use Rattle.pn_stream.specs.Positions.{are_positions};
-ghost use Rattle.pn_stream.specs.Resuming.{IsResumed, StandsFirst};
+ghost use Rattle.pn_stream.specs.Calls.{GivesUp, IsCall, Takes, IsFirst, IsResumed, StandsFirst};
+ghost use Rattle.pn_stream.specs.Brokers.{are_positions};
 ghost use Rattle.pn_stream.specs.Streams.{NoLine, IsLeft};
 
-use crate::delivery::Delivery;
 use crate::fault::{ResumeFault, StreamFault};
 use crate::first::first_message;
 use crate::memory::{NoWait, ReaderMemory};
+use crate::message::Delivery;
 use crate::next::{BatchSize, next_images};
 use pn_join::{LAST_POSITION, StreamName};
 use pn_line::{LineBuffer, Source};
@@ -118,7 +115,7 @@ impl<S: Source + Drop> StreamReader<S> {
         self.next_of_size(&NoWait::new(self.alloc), size)
     }
 
-    /// The first message of a writer, for which it waits. It may have any position from 1 to one past `position`, and
+    /// The first message of a publisher, for which it waits. It may have any position from 1 to one past `position`, and
     /// the reader goes on after it. Without a whole line there is none, and the part of one is kept.
     ///
     /// Faults come as from `next_batch`, but that a message of a greater position is a gap. A message that memory runs out
@@ -150,21 +147,16 @@ impl<S: Source + Drop> StreamReader<S> {
         &mut self,
         memory: &M,
     ) -> Result<Option<(u64, Vec<Image>)>, ResumeFault>
-        ensures first { IfOk result (λ found. IfSome found (λ first. IfSome (S.left self.old.source) (λ text.
-            Batch 1 1 (pred first.0) (self.old.part ++ text) first.1.items None self.new.part (S.left self.new.source)))) }
+        ensures first { IfOk result (λ found. IfSome found (λ first.
+            IsFirst self.old.position self.old.part (S.left self.old.source) first.0 first.1.items self.new.part (S.left self.new.source))) }
         ensures none { IfOk result (λ found. found ≡ None → IfSome (S.left self.old.source) (λ text.
             NoLine (self.old.part ++ text) × IsLeft (self.old.part ++ text) self.new.part (S.left self.new.source))) }
-        ensures one { IfOk result (λ found. IfSome found (λ first. length first.1.items ≡ 1)) }
-        ensures in_range { IfOk result (λ found. IfSome found (λ first. IsTrue (is_position first.0))) }
-        ensures up_to { IfOk result (λ found. IfSome found (λ first. first.0 ≤ self.old.position + 1)) }
         ensures stands { IfErr result (λ fault. IfSome (S.left self.old.source) (λ text.
             StandsFirst (self.old.position + 1) (self.old.part ++ text) fault)) }
         ensures read { IsErrOf result (ResumeFault.Stream StreamFault.Read) → S.may_fail }
         ensures gives_up { IsErrOf result (ResumeFault.Stream StreamFault.Memory) → M.may_give_up }
         ensures not_failed { IsErrOf result (ResumeFault.Stream StreamFault.Failed) → ⊥ }
-        ensures name { self.new.name ≡ self.old.name }
-        ensures position { self.new.position ≡ self.old.position }
-        ensures fault { self.new.fault ≡ self.old.fault }
+        ensures kept { self.new ≡ record self.old { part = self.new.part; source = self.new.source } }
         ensures part { length self.new.part ≤ max_line_bytes }
     {
         first_message(memory, &mut self.line, &mut self.source, self.position)

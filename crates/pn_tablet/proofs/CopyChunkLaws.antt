@@ -3,26 +3,21 @@ use Rattle.std.proofs.Common.{◌≡◌, ℕ, false, suc, ◌+◌, ◌-◌, ◌�
 use Rattle.std.proofs.Math.Seq.{drop-append_seam, drop-append-add}
 use Rattle.std.proofs.lemmas.List.{drop-append-le, drop_all}
 use Rattle.std.proofs.lemmas.List.Elements.{All-head, All-tail, All-nil, All-cons, All-append}
-use Rattle.pn_line.specs.Reads.{IsUnbroken}
+use Rattle.pn_line.specs.Line.{IsUnbroken}
 use Rattle.pn_line.specs.Text.{text_of}
 use Rattle.pn_line.proofs.TextLaws.{text_of-nil, text_of-append}
 use Rattle.pn_json.specs.Answers.{◌>>=◌}
-use Rattle.pn_record.specs.declared.image.Image.{Image}
-use Rattle.pn_tablet.specs.Copies.{TabletCopyValue}
-use Rattle.pn_tablet.specs.CopyChunks.{IsMarkOrImage, IsLineOf, BeginsWith, AddsLine, says_end}
-use Rattle.pn_tablet.specs.CopyLineReading.{line_at}
-use Rattle.pn_tablet.specs.CopyLines.{AreLines}
-use Rattle.pn_tablet.specs.CopyReading.{pieces_of, with_line, with_lines, read_on}
-use Rattle.pn_tablet.specs.Drafts.{DraftValue}
-use Rattle.pn_tablet.specs.declared.form.Form.{Form}
+use Rattle.pn_record.specs.declared.records.Image.{Image}
+use Rattle.pn_tablet.specs.Copies.{TabletCopyValue, DraftValue}
+use Rattle.pn_tablet.specs.CopyReading.{IsMarkOrImage, IsLineOf, BeginsWith, AddsLine, says_end, line_at, pieces_of, with_line, with_lines, read_on}
+use Rattle.pn_tablet.specs.CopyTexts.{AreLines}
+use Rattle.pn_tablet.specs.declared.copy.Form.{Form}
 use Rattle.pn_tablet.specs.declared.copy_line.CopyLine.{CopyLine}
 use Rattle.pn_tablet.specs.declared.copy_line.CopyLine.TheVariants.{Mark, Record, End}
 use Rattle.pn_tablet.specs.declared.fault.CopyTextFault.{CopyTextFault}
 use Rattle.pn_tablet.specs.declared.fault.CopyTextFault.TheVariants.{BadLine}
-use Rattle.pn_tablet.proofs.CopyPieces.{pieces_of-text, pieces_of-some}
-use Rattle.pn_tablet.proofs.CopyStarts.{some_then, text_cut}
-use Rattle.pn_tablet.proofs.CopySteps.{read_on-cons, then_ok, then_err, mark_position}
-use Rattle.pn_tablet.proofs.CopyTextFacts.{joined, joined-cons, joined-pieces_of, unbroken-pieces_of}
+use Rattle.pn_tablet.proofs.CopySteps.{pieces_of-text, pieces_of-some, read_on-cons, then_ok, then_err, mark_position}
+use Rattle.pn_tablet.proofs.CopyTextFacts.{some_then, text_cut, joined, joined-cons, joined-pieces_of, unbroken-pieces_of}
 use Rattle.pn_tablet.proofs.CopyValues.{line_at-again, line_at-found}
 
 -- ---- one line after another

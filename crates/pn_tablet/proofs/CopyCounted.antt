@@ -9,34 +9,29 @@ use Rattle.std.proofs.lemmas.List.Elements.{All-nil, All-cons}
 use Rattle.std.proofs.lemmas.List.Folds.{list_any-append}
 use Rattle.std.proofs.lemmas.List.Sums.{sum_by-cons}
 use Rattle.serde_json.specs.Written.{compact_text}
-use Rattle.pn_line.specs.Reads.{IsUnbroken}
+use Rattle.pn_line.specs.Line.{IsUnbroken}
 use Rattle.pn_line.specs.Text.{lines_of}
 use Rattle.pn_join.specs.declared.memory.NoMemory.{NoMemory}
-use Rattle.pn_record.specs.declared.image.Image.{Image as ImageValue}
-use Rattle.pn_record.specs.CellMap.{Entries}
-use Rattle.pn_record.specs.Cells.{spell, spell_cell}
+use Rattle.pn_record.specs.declared.records.Image.{Image as ImageValue}
+use Rattle.pn_record.specs.Cells.{Entries, spell, spell_cell}
 use Rattle.pn_record.specs.Limits.{ContentValue}
-use Rattle.pn_record.specs.Numbers.{holds_number}
+use Rattle.pn_record.specs.Showing.{holds_number}
 use Rattle.pn_record.specs.Sets.{CellValue}
 use Rattle.pn_tablet.specs.Copies.{TabletCopyValue}
-use Rattle.pn_tablet.specs.CopyLines.{head_data}
+use Rattle.pn_tablet.specs.CopyTexts.{head_data, mark_line, lines_after_head, form_of}
 use Rattle.pn_tablet.specs.CopyCounts.{CountsOn, CountsTo}
-use Rattle.pn_tablet.specs.CopyMaking.{CopyCountValue, IsCountedIn, lines_of_copy, lines_between}
-use Rattle.pn_tablet.specs.CopyTexts.{mark_line, lines_after_head}
-use Rattle.pn_tablet.specs.CopyWriting.{line_data, lines_text, copy_text}
-use Rattle.pn_tablet.specs.Forms.{form_of}
-use Rattle.pn_tablet.specs.Weights.{entries_weight, record_weight}
+use Rattle.pn_tablet.specs.CopyWriting.{CopyCountValue, IsCountedIn, lines_of_copy, lines_between, line_data, lines_text, copy_text}
+use Rattle.pn_tablet.specs.Tablets.{entries_weight, record_weight}
 use Rattle.pn_tablet.specs.declared.copy_line.CopyLine.{CopyLine}
 use Rattle.pn_tablet.specs.declared.copy_line.CopyLine.TheVariants.{Record, End}
 use Rattle.pn_tablet.specs.declared.copy_count.CopyStep.{CopyStep}
 use Rattle.pn_tablet.specs.declared.copy_count.CopyStep.TheVariants.{Done, Next}
 use Rattle.pn_tablet.specs.declared.copy_count.LineCount.{LineCount}
-use Rattle.pn_tablet.specs.declared.form.Form.{Form}
-use Rattle.pn_tablet.specs.declared.form.Form.TheVariants.{Texts, Numbers}
-use Rattle.pn_tablet.proofs.CopyLineCounts.{lines_again}
+use Rattle.pn_tablet.specs.declared.copy.Form.{Form}
+use Rattle.pn_tablet.specs.declared.copy.Form.TheVariants.{Texts, Numbers}
+use Rattle.pn_tablet.proofs.CopyLineCounts.{lines_again, holds, cell_holds}
 use Rattle.pn_tablet.proofs.CopyLineTexts.{text-unbroken}
 use Rattle.pn_tablet.proofs.CopyWritten.{head_of, texts, text_of-texts, head_first, cell_count}
-use Rattle.pn_tablet.proofs.FormLines.{holds, cell_holds}
 
 -- ---- how many lines
 

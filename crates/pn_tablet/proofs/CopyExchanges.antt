@@ -11,26 +11,24 @@ use Rattle.std.specs.Ordering.{is_lt, is_eq, ordering_reverse, ordering_then}
 use Rattle.serde_json.specs.Data.{Data}
 use Rattle.serde_json.specs.Find.{get}
 use Rattle.std.specs.Prelude.{codes}
-use Rattle.pn_line.specs.Reads.{IsUnbroken}
+use Rattle.pn_line.specs.Line.{IsUnbroken}
 use Rattle.pn_line.specs.Text.{text_of}
 use Rattle.pn_join.specs.Marks.{Positions, name_cmp}
-use Rattle.pn_record.specs.declared.image.Image.{Image}
+use Rattle.pn_record.specs.declared.records.Image.{Image}
 use Rattle.pn_record.specs.Limits.{Field}
-use Rattle.pn_record.specs.Order.{bytes_cmp, content_cmp}
+use Rattle.pn_record.specs.Sets.{bytes_cmp, content_cmp}
 use Rattle.pn_record.specs.Reading.{IsLine}
 use Rattle.pn_record.specs.Writing.{image_data}
-use Rattle.pn_record.specs.Laws.Totals.{bytes_cmp_total, content_cmp_total}
+use Rattle.pn_record.specs.Laws.{bytes_cmp_total, content_cmp_total}
 use Rattle.pn_tablet.specs.Copies.{TabletCopyValue}
-use Rattle.pn_tablet.specs.CopyLines.{Head, IsHead, IsValue, AreLines}
-use Rattle.pn_tablet.specs.CopyTexts.{comes_after, images_rise, mark_line, lines_after_head, IsCopyText}
-use Rattle.pn_tablet.specs.declared.form.Form.{Form}
-use Rattle.pn_tablet.specs.declared.form.Form.TheVariants.{Numbers}
+use Rattle.pn_tablet.specs.CopyTexts.{Head, IsHead, IsValue, AreLines, comes_after, images_rise, mark_line, lines_after_head, IsCopyText}
+use Rattle.pn_tablet.specs.declared.copy.Form.{Form}
+use Rattle.pn_tablet.specs.declared.copy.Form.TheVariants.{Numbers}
 use Rattle.pn_tablet.specs.declared.copy_line.CopyLine.{CopyLine}
 use Rattle.pn_tablet.specs.declared.copy_line.CopyLine.TheVariants.{Mark, Record, End}
 use Rattle.pn_tablet.specs.declared.fault.CopyTextFault.TheVariants.{Truncated}
-use Rattle.pn_tablet.proofs.CopyLineCounts.{same_lines}
+use Rattle.pn_tablet.proofs.CopyLineCounts.{same_lines, lines_in, held_all}
 use Rattle.pn_tablet.proofs.CopyValues.{line_at-again}
-use Rattle.pn_tablet.proofs.FormLines.{lines_in, held_all}
 
 -- ---- the order of lines
 

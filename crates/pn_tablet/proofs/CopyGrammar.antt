@@ -7,26 +7,23 @@ use Rattle.std.specs.Ordering.{is_lt}
 use Rattle.std.specs.FinMap.{is_sorted}
 use Rattle.std.specs.FinMap.Entries.{below_all}
 use Rattle.pn_json.specs.Answers.{◌>>=◌}
-use Rattle.pn_json.proofs.Inverses.{bind_ok, guard_ok, no_fault, passed}
+use Rattle.pn_json.proofs.LookUps.{bind_ok, guard_ok, no_fault, passed}
 use Rattle.pn_join.specs.Marks.{Positions, name_cmp}
-use Rattle.pn_record.specs.declared.image.Image.{Image}
-use Rattle.pn_record.specs.CellMap.{table_of, adds}
+use Rattle.pn_record.specs.declared.records.Image.{Image}
+use Rattle.pn_record.specs.Cells.{table_of, adds}
 use Rattle.pn_record.specs.Reading.{IsLine}
 use Rattle.pn_record.proofs.CellMaps.{adds-table_of, table_of-nil}
-use Rattle.pn_tablet.specs.Copies.{TabletCopyValue}
-use Rattle.pn_tablet.specs.CopyLines.{IsValue, AreLines}
-use Rattle.pn_tablet.specs.CopyLineReading.{line_at}
-use Rattle.pn_tablet.specs.CopyReading.{is_over, with_mark, with_image, finish, after, read_on}
-use Rattle.pn_tablet.specs.CopyTexts.{comes_after, images_rise}
-use Rattle.pn_tablet.specs.Drafts.{DraftValue, copy_of_draft}
-use Rattle.pn_tablet.specs.Ranges.{Ends, in_range}
-use Rattle.pn_tablet.specs.declared.form.Form.{Form}
+use Rattle.pn_tablet.specs.Copies.{TabletCopyValue, DraftValue, copy_of_draft}
+use Rattle.pn_tablet.specs.CopyTexts.{IsValue, AreLines, comes_after, images_rise}
+use Rattle.pn_tablet.specs.CopyReading.{line_at, is_over, with_mark, with_image, finish, after, read_on}
+use Rattle.pn_tablet.specs.Layouts.{Ends, in_range}
+use Rattle.pn_tablet.specs.declared.copy.Form.{Form}
 use Rattle.pn_tablet.specs.declared.copy_line.CopyLine.{CopyLine}
 use Rattle.pn_tablet.specs.declared.copy_line.CopyLine.TheVariants.{Mark, Record, End}
 use Rattle.pn_tablet.specs.declared.fault.CopyTextFault.TheVariants.{BadLine, OutsideRange, NotRising, BadEnd}
 use Rattle.pn_tablet.proofs.CopySteps.{read_on-cons, then_ok}
 use Rattle.pn_tablet.proofs.CopyValues.{line_at-again, line_at-found}
-use Rattle.pn_tablet.proofs.Drafting.{is_after_all}
+use Rattle.pn_tablet.proofs.Keeping.{is_after_all}
 
 -- the images rise after the last one, if there is one
 abbrev pub rise_after : Option Image → List Image → Bool

@@ -9,22 +9,19 @@ use Rattle.std.specs.List.{list_all, sum_by}
 use Rattle.json.specs.Print.{escape_byte, escape_letter, escape, quoted}
 use Rattle.serde_json.specs.Data.{Data, null, boolean, number, string, array, object, unsigned, negative, float, Items, no_items, item, Members, no_members, member}
 use Rattle.serde_json.specs.Written.{compact_text, items_text, members_text, comma_if}
-use Rattle.pn_join.specs.Marks.{is_position}
+use Rattle.pn_join.specs.Marks.{is_position, is_name, is_name_byte}
 use Rattle.pn_join.specs.declared.marks.TheConstants.{LAST_POSITION}
-use Rattle.pn_join.specs.Naming.{is_name, is_name_byte}
-use Rattle.pn_line.specs.Reads.{IsUnbroken}
-use Rattle.pn_record.specs.Bodies.{field_size, fields_fit, names_rise, is_body}
-use Rattle.pn_record.specs.Limits.{Field, is_field, is_version}
-use Rattle.pn_record.specs.declared.limits.TheConstants.{MAX_VERSION_NUMBER}
+use Rattle.pn_line.specs.Line.{IsUnbroken}
+use Rattle.pn_record.specs.Limits.{field_size, fields_fit, names_rise, is_body, Field, is_field, is_version}
+use Rattle.pn_record.specs.declared.version.TheConstants.{MAX_VERSION_NUMBER}
 use Rattle.pn_record.specs.Marks.{is_mark}
 use Rattle.pn_record.specs.Writing.{value_data, fields_data, body_data, image_data}
 use Rattle.pn_record.proofs.ImageText.{length-quoted}
-use Rattle.pn_record.proofs.Values.{field_value}
-use Rattle.pn_tablet.specs.CopyLines.{head_data, mark_data, end_data}
-use Rattle.pn_tablet.specs.Ranges.{key_data, is_end}
-use Rattle.pn_tablet.specs.Forms.{form_number}
-use Rattle.pn_tablet.specs.declared.form.Form.{Form}
-use Rattle.pn_tablet.specs.declared.form.Form.TheVariants.{Texts, Numbers}
+use Rattle.pn_record.proofs.ShapeParts.{field_value}
+use Rattle.pn_tablet.specs.CopyTexts.{head_data, mark_data, end_data, form_number}
+use Rattle.pn_tablet.specs.Layouts.{key_data, is_end}
+use Rattle.pn_tablet.specs.declared.copy.Form.{Form}
+use Rattle.pn_tablet.specs.declared.copy.Form.TheVariants.{Texts, Numbers}
 
 also : (x : ℕ) (xs : List ℕ) → x ≢ 10 → IsUnbroken xs → IsUnbroken (x ∷ xs)
 also x xs other unbroken = All-cons (λ b. b ≢ 10) x xs other unbroken

@@ -11,28 +11,23 @@ use Rattle.serde_json.specs.Written.{compact_text}
 use Rattle.serde_json.proofs.OnLiterals.{serde_json_on_literals}
 use Rattle.pn_join.specs.Marks.{Positions}
 use Rattle.pn_join.specs.Tables.{IsTable}
-use Rattle.pn_json.specs.AppendedText.{AppendsText, MakesPiece}
+use Rattle.pn_json.specs.Tokens.{AppendsText, MakesPiece}
 use Rattle.pn_json.proofs.AppendedTexts.{appended_none}
-use Rattle.pn_record.specs.declared.image.Image.{Image as ImageValue}
-use Rattle.pn_record.specs.CellMap.{Entries}
-use Rattle.pn_record.specs.Cells.{spell}
+use Rattle.pn_record.specs.declared.records.Image.{Image as ImageValue}
+use Rattle.pn_record.specs.Cells.{Entries, spell}
 use Rattle.pn_record.specs.Limits.{ContentValue}
-use Rattle.pn_record.specs.Order.{bytes_cmp}
-use Rattle.pn_record.specs.Sets.{CellValue, HasContents}
+use Rattle.pn_record.specs.Sets.{bytes_cmp, CellValue, HasContents}
 use Rattle.pn_record.specs.Writing.{image_data}
 use Rattle.pn_tablet.specs.Copies.{TabletCopyValue}
-use Rattle.pn_tablet.specs.CopyLines.{head_data, mark_data, end_data}
-use Rattle.pn_tablet.specs.CopyMaking.{IsCopyCursor, MakesLine, lines_of_copy, lines_between, copy_rest}
-use Rattle.pn_tablet.specs.CopyTexts.{mark_line, lines_after_head}
-use Rattle.pn_tablet.specs.CopyWriting.{line_data, line_text, lines_text}
-use Rattle.pn_tablet.specs.Forms.{form_number, form_of}
-use Rattle.pn_tablet.specs.Ranges.{key_data}
+use Rattle.pn_tablet.specs.CopyTexts.{head_data, mark_data, end_data, mark_line, lines_after_head, form_number, form_of}
+use Rattle.pn_tablet.specs.CopyWriting.{IsCopyCursor, MakesLine, lines_of_copy, lines_between, copy_rest, line_data, line_text, lines_text}
+use Rattle.pn_tablet.specs.Layouts.{key_data}
 use Rattle.pn_tablet.specs.declared.copy_line.CopyLine.{CopyLine}
 use Rattle.pn_tablet.specs.declared.copy_line.CopyLine.TheVariants.{Record, End}
-use Rattle.pn_tablet.specs.declared.copy_line_appending.TheConstants.{MAX_COPY_LINE_BYTES}
+use Rattle.pn_tablet.specs.declared.copy_line_writing.TheConstants.{MAX_COPY_LINE_BYTES}
 use Rattle.pn_tablet.specs.declared.copy_text.CopyCursor.{CopyCursor}
 use Rattle.pn_tablet.specs.declared.copy_text.CopyCursor.TheVariants.{Head, Mark, Image, Written}
-use Rattle.pn_tablet.specs.declared.form.Form.{Form}
+use Rattle.pn_tablet.specs.declared.copy.Form.{Form}
 use Rattle.pn_tablet.proofs.CopyCounted.{copy_lines, image_of}
 use Rattle.pn_tablet.proofs.CopyWritten.{head_of}
 

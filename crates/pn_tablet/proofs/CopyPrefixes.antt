@@ -3,21 +3,18 @@ use Rattle.std.proofs.Common.{◌≡◌, ◌≢◌, ◌⊎◌, inl, inr, ℕ, �
 use Rattle.std.proofs.lemmas.Bool.{and_parts, false≢true}
 use Rattle.std.proofs.lemmas.List.Elements.{All-head, All-tail, All-nil, All-cons}
 use Rattle.pn_json.specs.Answers.{◌>>=◌}
-use Rattle.pn_json.proofs.Inverses.{bind_ok, guard_ok}
-use Rattle.pn_line.specs.Reads.{IsUnbroken}
+use Rattle.pn_json.proofs.LookUps.{bind_ok, guard_ok}
+use Rattle.pn_line.specs.Line.{IsUnbroken}
 use Rattle.pn_line.specs.Text.{text_of}
-use Rattle.pn_tablet.specs.Copies.{TabletCopyValue}
-use Rattle.pn_tablet.specs.CopyLineReading.{head_at, line_at}
-use Rattle.pn_tablet.specs.CopyReading.{pieces_of, is_over, with_mark, with_image, after, read_on, copy_in, copy_at}
+use Rattle.pn_tablet.specs.Copies.{TabletCopyValue, DraftValue, empty_draft, copy_of_draft}
+use Rattle.pn_tablet.specs.CopyReading.{head_at, line_at, pieces_of, is_over, with_mark, with_image, after, read_on, copy_in, copy_at}
 use Rattle.pn_tablet.specs.CopyTexts.{IsCopyText}
-use Rattle.pn_tablet.specs.Drafts.{DraftValue, empty_draft, copy_of_draft}
-use Rattle.pn_tablet.specs.declared.form.Form.{Form}
+use Rattle.pn_tablet.specs.declared.copy.Form.{Form}
 use Rattle.pn_tablet.specs.declared.copy_line.CopyLine.{CopyLine}
 use Rattle.pn_tablet.specs.declared.copy_line.CopyLine.TheVariants.{Mark, Record, End}
 use Rattle.pn_tablet.specs.declared.fault.CopyTextFault.{CopyTextFault}
 use Rattle.pn_tablet.specs.declared.fault.CopyTextFault.TheVariants.{Truncated, BadLine, BadEnd}
-use Rattle.pn_tablet.proofs.CopyPieces.{pieces_of-line, pieces_of-last, pieces_of-text, pieces_of-nil}
-use Rattle.pn_tablet.proofs.CopySteps.{read_on-cons, read_on-last, then_ok}
+use Rattle.pn_tablet.proofs.CopySteps.{pieces_of-line, pieces_of-last, pieces_of-text, pieces_of-nil, read_on-cons, read_on-last, then_ok}
 use Rattle.pn_tablet.proofs.CopyTextFacts.{text_again}
 
 -- the pieces are some of the lines, though not all, and then a part

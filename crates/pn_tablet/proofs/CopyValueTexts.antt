@@ -15,18 +15,15 @@ use Rattle.serde_json.specs.Data.{Data, null, boolean, number, string, array, ob
 use Rattle.serde_json.specs.Read.{of_members, read, max_depth}
 use Rattle.serde_json.specs.Written.{outline, items_outline, members_outline}
 use Rattle.serde_json.proofs.Numbers.{number_of-decimal}
-use Rattle.pn_record.specs.declared.image.Image.{Image}
-use Rattle.pn_record.specs.Bodies.{fields_fit, names_rise, is_body, is_content}
-use Rattle.pn_record.specs.Canonical.{is_image}
-use Rattle.pn_record.specs.Limits.{Field, is_field, is_key, is_version}
-use Rattle.pn_record.specs.Reading.{reading}
+use Rattle.pn_record.specs.declared.records.Image.{Image}
+use Rattle.pn_record.specs.Limits.{fields_fit, names_rise, is_body, is_content, Field, is_field, is_key, is_version}
+use Rattle.pn_record.specs.Reading.{is_image, reading}
 use Rattle.pn_record.specs.Writing.{value_data, version_data, fields_data, body_data, image_data}
-use Rattle.pn_record.proofs.Values.{field_value, of_json-value}
-use Rattle.pn_join.specs.Naming.{is_name}
-use Rattle.pn_tablet.specs.CopyLines.{head_data, mark_data, end_data}
+use Rattle.pn_record.proofs.ShapeParts.{field_value, of_json-value}
+use Rattle.pn_join.specs.Marks.{is_name}
+use Rattle.pn_tablet.specs.CopyTexts.{head_data, mark_data, end_data, form_number}
 use Rattle.pn_tablet.specs.CopyWriting.{IsReadAgain}
-use Rattle.pn_tablet.specs.Forms.{form_number}
-use Rattle.pn_tablet.specs.declared.form.Form.{Form}
+use Rattle.pn_tablet.specs.declared.copy.Form.{Form}
 use Rattle.pn_tablet.proofs.CopyLineTexts.{below_version, fields_are, small_form}
 
 mutual

@@ -6,25 +6,21 @@ use Rattle.serde_json.specs.Data.{Data, null, boolean, number, string, array, ob
 use Rattle.serde_json.specs.Find.{get, get_member, as_str, as_object}
 use Rattle.pn_json.specs.Answers.{◌>>=◌}
 use Rattle.pn_json.specs.Members.{whole_number, member_as, no_others, only_named}
-use Rattle.pn_json.proofs.Inverses.{bind_ok, guard_ok, no_fault, ok_or_ok, and_then_some, string_from_as_str, object_from_as_object, number_from_whole}
-use Rattle.pn_json.proofs.LookUps.{Rise}
-use Rattle.pn_json.proofs.MembersByName.{same_by_name}
+use Rattle.pn_json.proofs.LookUps.{bind_ok, guard_ok, no_fault, ok_or_ok, and_then_some, string_from_as_str, object_from_as_object, number_from_whole, Rise, same_by_name}
 use Rattle.pn_record.specs.declared.fault.ImageFault.TheVariants.{TooLong, NotJson}
 use Rattle.pn_record.specs.Grammar.{image_in}
 use Rattle.pn_record.specs.Limits.{Field}
 use Rattle.pn_record.specs.Marks.{is_mark}
 use Rattle.pn_record.specs.Reading.{IsLine, value_at, reading}
 use Rattle.pn_record.specs.Writing.{image_data}
-use Rattle.pn_record.proofs.Lines as lines
-use Rattle.pn_record.proofs.ReadImages.{image_in_order}
-use Rattle.pn_record.proofs.ReadInOrder.{InOrder, in_order}
+use Rattle.pn_record.proofs.ImageLines as lines
+use Rattle.pn_record.proofs.ReadImages.{image_in_order, InOrder, in_order}
 use Rattle.pn_record.proofs.SameImage.{image_again}
-use Rattle.pn_tablet.specs.CopyLines.{Head, head_data, is_range, IsHead, IsValue}
-use Rattle.pn_tablet.specs.Ranges.{key_data, Ends}
-use Rattle.pn_tablet.specs.CopyLineReading.{or_as, if_fits, end_of, head_in, mark_in, end_in, record_in, line_in, head_at, line_at}
-use Rattle.pn_tablet.specs.Forms.{form_number, form_at, may_hold}
-use Rattle.pn_tablet.specs.declared.form.Form.{Form}
-use Rattle.pn_tablet.specs.declared.form.Form.TheVariants.{Texts, Numbers}
+use Rattle.pn_tablet.specs.CopyTexts.{Head, head_data, is_range, IsHead, IsValue, form_number, form_at, may_hold}
+use Rattle.pn_tablet.specs.Layouts.{key_data, Ends}
+use Rattle.pn_tablet.specs.CopyReading.{or_as, if_fits, end_of, head_in, mark_in, end_in, record_in, line_in, head_at, line_at}
+use Rattle.pn_tablet.specs.declared.copy.Form.{Form}
+use Rattle.pn_tablet.specs.declared.copy.Form.TheVariants.{Texts, Numbers}
 use Rattle.pn_tablet.specs.declared.copy_line.CopyLine.{CopyLine}
 use Rattle.pn_tablet.specs.declared.copy_line.CopyLine.TheVariants.{Mark, Record, End}
 

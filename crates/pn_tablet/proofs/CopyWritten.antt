@@ -14,34 +14,28 @@ use Rattle.serde_json.specs.Read.{read}
 use Rattle.serde_json.specs.Written.{compact_text}
 use Rattle.json.specs.Written.{Written}
 use Rattle.pn_json.specs.Tokens.{Appends, value_tokens}
-use Rattle.pn_join.specs.Marks.{Positions, is_position, name_cmp}
-use Rattle.pn_join.specs.Naming.{is_name}
-use Rattle.pn_line.specs.Reads.{IsUnbroken}
+use Rattle.pn_join.specs.Marks.{Positions, is_position, name_cmp, is_name}
+use Rattle.pn_line.specs.Line.{IsUnbroken}
 use Rattle.pn_line.specs.Text.{text_of}
-use Rattle.pn_record.specs.declared.image.Image.{Image}
-use Rattle.pn_record.specs.Canonical.{is_image}
-use Rattle.pn_record.specs.Cells.{spell, spell_cell}
-use Rattle.pn_record.specs.CellMap.{Entries, table_of}
+use Rattle.pn_record.specs.declared.records.Image.{Image}
+use Rattle.pn_record.specs.Reading.{is_image, reading}
+use Rattle.pn_record.specs.Cells.{spell, spell_cell, Entries, table_of}
 use Rattle.pn_record.specs.Limits.{ContentValue}
-use Rattle.pn_record.specs.Sets.{Stamp, CellValue, HasContents}
-use Rattle.pn_record.specs.Order.{bytes_cmp}
+use Rattle.pn_record.specs.Sets.{Stamp, CellValue, HasContents, bytes_cmp}
 use Rattle.pn_join.specs.Tables.{IsTable}
 use Rattle.pn_record.specs.Marks.{is_mark}
-use Rattle.pn_record.specs.Reading.{reading}
 use Rattle.pn_record.specs.Writing.{image_data}
 use Rattle.pn_record.proofs.ImageText.{depth-image_data, length-image_data}
 use Rattle.pn_tablet.specs.Copies.{TabletCopyValue}
-use Rattle.pn_tablet.specs.CopyLines.{Head, head_data, mark_data, end_data, is_range, IsHead, IsValue, AreLines}
-use Rattle.pn_tablet.specs.Ranges.{is_end, Ends, in_range, are_ends}
-use Rattle.pn_tablet.specs.CopyTexts.{images_rise, mark_line, lines_after_head, IsCopyText}
+use Rattle.pn_tablet.specs.CopyTexts.{Head, head_data, mark_data, end_data, is_range, IsHead, IsValue, AreLines, images_rise, mark_line, lines_after_head, IsCopyText, form_of}
+use Rattle.pn_tablet.specs.Layouts.{is_end, Ends, in_range, are_ends}
 use Rattle.pn_tablet.specs.CopyWriting.{line_data, line_text, lines_text, copy_text, IsReadAgain, WritesValue, IsWritten, IsWrittenLine, WritesLines}
-use Rattle.pn_tablet.specs.Forms.{form_of}
-use Rattle.pn_tablet.specs.declared.form.Form.{Form}
-use Rattle.pn_tablet.specs.declared.form.Form.TheVariants.{Numbers}
+use Rattle.pn_tablet.specs.declared.copy.Form.{Form}
+use Rattle.pn_tablet.specs.declared.copy.Form.TheVariants.{Numbers}
 use Rattle.pn_tablet.specs.declared.copy_line.CopyLine.{CopyLine}
 use Rattle.pn_tablet.specs.declared.copy_line.CopyLine.TheVariants.{Mark, Record, End}
 use Rattle.pn_tablet.specs.Tablets.{lie_in}
-use Rattle.pn_tablet.proofs.FormLines.{lines_in, held_written}
+use Rattle.pn_tablet.proofs.CopyLineCounts.{lines_in, held_written}
 use Rattle.pn_tablet.proofs.SpelledImages.{spelled_own, spell_inside, spell_rises}
 use Rattle.pn_tablet.proofs.CopyValueTexts.{image_again, mark_again, end_again, head_again}
 use Rattle.pn_tablet.proofs.CopyLineTexts.{text-unbroken, below_mark, short_end, short_mark, short_head}

@@ -1,37 +1,62 @@
--- How many cells are deleted once a join's changes are put.
-use Rattle.std.proofs.Common.{◌≡◌, ℕ, suc, ◌+◌, ◌≤◌, Bool, true, false, not, cond, T, List, [], ◌∷◌, length, count_by, Option, Some, None, Less, Equal, Greater, is_eq, refl, sym, ap, ◌∙◌, subst, arith}
-use Rattle.std.specs.List.{AllByRecursion, AllZip}
+-- How many cells are deleted once a join's changes are put, and what is weighed one by one.
+use Rattle.std.proofs.Common.{◌≡◌, ℕ, ◌+◌, ◌<◌, ◌≤◌, List, get_or, length, take, map, sym, ap, ◌∙◌, arith, suc, Bool, true, false, not, cond, T, [], ◌∷◌, count_by, Option, Some, None, Less, Equal, Greater, is_eq, refl, subst}
+use Rattle.std.specs.List.{sum_by, AllByRecursion, AllZip}
+use Rattle.std.proofs.lemmas.List.{get_or-map, length-map, take_all}
+use Rattle.std.proofs.lemmas.List.Sums.{sum_by_more, sum_by-cons, count_by-le-length}
 use Rattle.std.specs.FinMap.{find, put, is_sorted}
 use Rattle.std.specs.FinMap.Entries.{by_order, find-put, same_entries}
 use Rattle.std.proofs.lemmas.Cmp.{nat_list_cmp_total}
-use Rattle.std.proofs.lemmas.List.Sums.{sum_by-cons, count_by-le-length}
 use Rattle.std.proofs.lemmas.Map.Lookups.{exact_bytes}
-use Rattle.pn_join.specs.TableChanges.{Changes, AreChanges, AreValid, those_there, puts}
-use Rattle.pn_join.specs.Tables.{IsTable, optional_joined}
+use Rattle.pn_join.specs.Tables.{Changes, AreChanges, AreValid, those_there, puts, IsTable, optional_joined}
 use Rattle.pn_join.specs.declared.table.change.TableChange.{TableChange}
 use Rattle.pn_join.proofs.Changing.{puts_joined, valid_changes}
 use Rattle.pn_join.proofs.Puts.{IsTable-put}
 use Rattle.pn_join.proofs.Rising.{Below, Rising, Rising-from_sorted, flipped}
-use Rattle.pn_record.specs.CellMap.{Entries}
-use Rattle.pn_record.specs.Laws.JoinedCells.{cell_joined-laws}
-use Rattle.pn_record.specs.Order.{bytes_cmp}
-use Rattle.pn_record.specs.Sets.{CellValue, HasContents, cell_joined}
-use Rattle.pn_record.proofs.HeldRecords.{find-joined}
-use Rattle.pn_tablet.specs.Counting.{is_deleted, was_deleted, deleted_in}
+use Rattle.pn_record.specs.Cells.{Entries}
+use Rattle.pn_record.specs.Laws.{cell_joined-laws}
+use Rattle.pn_record.specs.Sets.{bytes_cmp, CellValue, HasContents, cell_joined}
+use Rattle.pn_record.proofs.CellMaps.{find-joined}
+use Rattle.pn_tablet.specs.Tablets.{is_deleted, was_deleted, deleted_in}
 
-abbrev Told : Type 0
-Told = List (TableChange (List ℕ) CellValue)
+-- What is weighed one by one.
+
+-- one more is weighed
+pub weight_more : {X Y : Type 0} (weigh : X → ℕ) (f : Y → X) (ys : List Y) (i : ℕ) (y : Y) → y ≡ get_or ys i y → i < length ys
+    → sum_by weigh (take (i + 1) (map f ys)) ≡ sum_by weigh (take i (map f ys)) + weigh (f y)
+weight_more {X = X} weigh f ys i y here inside =
+    let within : i < length (map f ys) = omega (arith, length-map ys f) in
+    let at_i : get_or (map f ys) i (f y) ≡ f y = get_or-map f ys i y (f y) inside ∙ ap f (sym here) in
+    sum_by_more weigh (map f ys) i (f y) within ∙ ap (λ (x : X). sum_by weigh (take i (map f ys)) + weigh x) at_i
+
+-- all are weighed
+pub weight_all : {X Y : Type 0} (weigh : X → ℕ) (f : Y → X) (ys : List Y) (i : ℕ) → length ys ≤ i → sum_by weigh (take i (map f ys)) ≡ sum_by weigh (map f ys)
+weight_all {X = X} weigh f ys i past =
+    let short : length (map f ys) ≤ i = omega (arith, past, length-map ys f) in
+    ap (λ (l : List X). sum_by weigh l) (take_all i (map f ys) short)
+
+-- the same of what is weighed as it is
+pub own_more : {X : Type 0} (weigh : X → ℕ) (xs : List X) (i : ℕ) (x : X) → x ≡ get_or xs i x → i < length xs
+    → sum_by weigh (take (i + 1) xs) ≡ sum_by weigh (take i xs) + weigh x
+own_more {X = X} weigh xs i x here inside = sum_by_more weigh xs i x inside ∙ ap (λ (y : X). sum_by weigh (take i xs) + weigh y) (sym here)
+
+pub own_all : {X : Type 0} (weigh : X → ℕ) (xs : List X) (i : ℕ) → length xs ≤ i → sum_by weigh (take i xs) ≡ sum_by weigh xs
+own_all {X = X} weigh xs i past = ap (λ (l : List X). sum_by weigh l) (take_all i xs past)
+
+-- How many cells are deleted once a join's changes are put.
+
+abbrev ReturnedChanges : Type 0
+ReturnedChanges = List (TableChange (List ℕ) CellValue)
 
 -- one if so
 abbrev pub one : Bool → ℕ
 one t = cond t 1 0
 
 -- how many changes bring a deleted cell, and how many take one away
-abbrev pub come : Told → ℕ
-come told = count_by (λ change. is_deleted change.after) told
+abbrev pub come : ReturnedChanges → ℕ
+come table_changes = count_by (λ change. is_deleted change.after) table_changes
 
-abbrev pub gone : Told → ℕ
-gone told = count_by (λ change. was_deleted change.before) told
+abbrev pub gone : ReturnedChanges → ℕ
+gone table_changes = count_by (λ change. was_deleted change.before) table_changes
 
 -- the first cell, and those after it
 pub first_counted : (e : List ℕ × CellValue) (es : Entries) → deleted_in (e ∷ es) ≡ one (is_deleted e.1) + deleted_in es
@@ -114,31 +139,31 @@ puts_counted old now (e ∷ es) [] table rising same all = absurd all
 puts_counted old now (e ∷ es) (None ∷ ms) table rising same all = puts_counted old now es ms table rising.1 same.1 all.1
 puts_counted old now (e ∷ es) (Some change ∷ ms) table rising same all =
     let next : Entries = put bytes_cmp change.key change.after now in
-    let told : Told = those_there ms in
+    let table_changes : ReturnedChanges = those_there ms in
     let before : find bytes_cmp change.key now ≡ change.before = ap (λ (key : List ℕ). find bytes_cmp key now) all.0.key ∙ same.0 ∙ sym all.0.before in
     let below : Below bytes_cmp change.key es = subst (λ (key : List ℕ). Below bytes_cmp key es) (sym all.0.key) rising.0 in
-    one_change (one (was_deleted change.before)) (one (is_deleted change.after)) (gone told) (come told) (deleted_in (puts bytes_cmp next told)) (deleted_in now) (deleted_in next) (gone (change ∷ told)) (come (change ∷ told))
+    one_change (one (was_deleted change.before)) (one (is_deleted change.after)) (gone table_changes) (come table_changes) (deleted_in (puts bytes_cmp next table_changes)) (deleted_in now) (deleted_in next) (gone (change ∷ table_changes)) (come (change ∷ table_changes))
     (subst (λ (o : Option CellValue). one (was_deleted o) + deleted_in next ≡ one (is_deleted change.after) + deleted_in now) before (put_counted change.key change.after now (Rising-from_sorted bytes_cmp now table.rising)))
     (puts_counted old next es ms (IsTable-put bytes_cmp nat_list_cmp_total HasContents change.key change.after now all.0.is_valid table) rising.1 (same_later change.key change.after old now es below same.1) all.1)
-    (sum_by-cons (λ (c : TableChange (List ℕ) CellValue). one (was_deleted c.before)) change told)
-    (sum_by-cons (λ (c : TableChange (List ℕ) CellValue). one (is_deleted c.after)) change told)
+    (sum_by-cons (λ (c : TableChange (List ℕ) CellValue). one (was_deleted c.before)) change table_changes)
+    (sum_by-cons (λ (c : TableChange (List ℕ) CellValue). one (is_deleted c.after)) change table_changes)
 
-puts_table : (now : Entries) (told : Told) → IsTable bytes_cmp HasContents now → AreValid HasContents told → IsTable bytes_cmp HasContents (puts bytes_cmp now told)
+puts_table : (now : Entries) (table_changes : ReturnedChanges) → IsTable bytes_cmp HasContents now → AreValid HasContents table_changes → IsTable bytes_cmp HasContents (puts bytes_cmp now table_changes)
 puts_table now [] table valid = table
-puts_table now (change ∷ told) table valid =
-    puts_table (put bytes_cmp change.key change.after now) told (IsTable-put bytes_cmp nat_list_cmp_total HasContents change.key change.after now valid.0 table) valid.1
+puts_table now (change ∷ table_changes) table valid =
+    puts_table (put bytes_cmp change.key change.after now) table_changes (IsTable-put bytes_cmp nat_list_cmp_total HasContents change.key change.after now valid.0 table) valid.1
 
 -- a join changes the count by what its changes bring and take away
-pub joined_count : (old more new : Entries) (told : Told) → IsTable bytes_cmp HasContents old → IsTable bytes_cmp HasContents more
-    → AreChanges bytes_cmp (λ cell. cell) cell_joined HasContents old more told → is_sorted bytes_cmp new ≡ true
+pub joined_count : (old more new : Entries) (table_changes : ReturnedChanges) → IsTable bytes_cmp HasContents old → IsTable bytes_cmp HasContents more
+    → AreChanges bytes_cmp (λ cell. cell) cell_joined HasContents old more table_changes → is_sorted bytes_cmp new ≡ true
     → ((key : List ℕ) → find bytes_cmp key new ≡ optional_joined cell_joined (find bytes_cmp key old) (find bytes_cmp key more))
-    → gone told + deleted_in new ≡ come told + deleted_in old
-joined_count old more new told table others are rising joined =
-    let made : Told = those_there are.made in
-    let valid : AreValid HasContents told = subst (AreValid HasContents) (sym are.are) (valid_changes bytes_cmp (λ cell. cell) cell_joined HasContents old more are.made are.each) in
-    let is : new ≡ puts bytes_cmp old told =
-    same_entries bytes_cmp nat_list_cmp_total exact_bytes new (puts bytes_cmp old told) (subst T (sym rising) tt) (subst T (sym (puts_table old told table valid).rising) tt)
-    (λ q. joined q ∙ sym (find-joined old more (puts bytes_cmp old told) (puts_joined bytes_cmp nat_list_cmp_total (λ cell. cell) cell_joined cell_joined-laws HasContents old more told others are) q)) in
-    subst (λ (es : Entries). gone told + deleted_in es ≡ come told + deleted_in old) (sym is)
-    (subst (λ (list : Told). gone list + deleted_in (puts bytes_cmp old list) ≡ come list + deleted_in old) (sym are.are)
+    → gone table_changes + deleted_in new ≡ come table_changes + deleted_in old
+joined_count old more new table_changes table others are rising joined =
+    let made : ReturnedChanges = those_there are.made in
+    let valid : AreValid HasContents table_changes = subst (AreValid HasContents) (sym are.are) (valid_changes bytes_cmp (λ cell. cell) cell_joined HasContents old more are.made are.each) in
+    let is : new ≡ puts bytes_cmp old table_changes =
+    same_entries bytes_cmp nat_list_cmp_total exact_bytes new (puts bytes_cmp old table_changes) (subst T (sym rising) tt) (subst T (sym (puts_table old table_changes table valid).rising) tt)
+    (λ q. joined q ∙ sym (find-joined old more (puts bytes_cmp old table_changes) (puts_joined bytes_cmp nat_list_cmp_total (λ cell. cell) cell_joined cell_joined-laws HasContents old more table_changes others are) q)) in
+    subst (λ (es : Entries). gone table_changes + deleted_in es ≡ come table_changes + deleted_in old) (sym is)
+    (subst (λ (list : ReturnedChanges). gone list + deleted_in (puts bytes_cmp old list) ≡ come list + deleted_in old) (sym are.are)
     (puts_counted old old more are.made table (Rising-from_sorted bytes_cmp more others.rising) (same_itself old more) are.each))

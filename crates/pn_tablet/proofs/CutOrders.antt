@@ -7,10 +7,9 @@ use Rattle.std.specs.Option.{option_cmp}
 use Rattle.std.specs.Ordering.{ordering_reverse}
 use Rattle.pn_json.specs.Answers.{◌>>=◌}
 use Rattle.pn_record.proofs.Sorted.{is_less}
-use Rattle.pn_record.specs.Order.{bytes_cmp}
-use Rattle.pn_tablet.specs.Cuts.{BeginInOrder, IsNoEmpty, begin_of, by_order, count_having}
-use Rattle.pn_tablet.specs.Ranges.{Ends, are_ends, in_range, is_before, is_below, is_from}
-use Rattle.pn_tablet.specs.declared.cuts.CutFault.{CutFault}
+use Rattle.pn_record.specs.Sets.{bytes_cmp}
+use Rattle.pn_tablet.specs.Layouts.{BeginInOrder, IsNoEmpty, begin_of, by_order, count_having, Ends, are_ends, in_range, is_before, is_below, is_from}
+use Rattle.pn_tablet.specs.declared.layout.CutFault.{CutFault}
 use Rattle.pn_tablet.proofs.CutRanges.{keys_same}
 use Rattle.pn_tablet.proofs.LayoutFacts.{not_below}
 

@@ -10,12 +10,10 @@ use Rattle.std.specs.List.Sorted.{IsStrictlySortedBy}
 use Rattle.std.specs.Option.{option_cmp}
 use Rattle.pn_json.specs.Answers.{◌>>=◌}
 use Rattle.pn_record.proofs.Sorted.{is_less}
-use Rattle.pn_record.specs.Order.{bytes_cmp}
-use Rattle.pn_tablet.specs.Cuts.{CutAllKeys, all_ends, begins_of, by_order, count_having, ends_open, follow_from, layout_with}
-use Rattle.pn_tablet.specs.Layouts.{Bounds, IsLayout, first_fall, layout_of, rising_layout, tablet_ends}
-use Rattle.pn_tablet.specs.Ranges.{Ends, are_ends, is_below, is_from}
-use Rattle.pn_tablet.specs.declared.cuts.CutFault.{CutFault}
-use Rattle.pn_tablet.specs.declared.cuts.CutFault.TheVariants.{TooMany}
+use Rattle.pn_record.specs.Sets.{bytes_cmp}
+use Rattle.pn_tablet.specs.Layouts.{CutAllKeys, all_ends, begins_of, by_order, count_having, ends_open, follow_from, layout_with, Bounds, IsLayout, first_fall, layout_of, rising_layout, tablet_ends, Ends, are_ends, is_below, is_from}
+use Rattle.pn_tablet.specs.declared.layout.CutFault.{CutFault}
+use Rattle.pn_tablet.specs.declared.layout.CutFault.TheVariants.{TooMany}
 use Rattle.pn_tablet.specs.declared.layout.LayoutFault.TheVariants as layout
 use Rattle.pn_tablet.specs.declared.layout.TheConstants.{MAX_BOUNDS}
 use Rattle.pn_tablet.proofs.LayoutFacts.{not_below}

@@ -5,35 +5,29 @@ use Rattle.std.proofs.lemmas.List.{map-append, length-map}
 use Rattle.std.proofs.lemmas.List.Elements.{All-head, All-tail, All-nil, All-cons, All-append}
 use Rattle.std.specs.Option.{option_map_or}
 use Rattle.pn_json.specs.Answers.{◌>>=◌}
-use Rattle.pn_line.specs.Reads.{IsUnbroken}
+use Rattle.pn_line.specs.Line.{IsUnbroken}
 use Rattle.pn_line.specs.Text.{text_of}
 use Rattle.pn_line.proofs.TextLaws.{text_of-nil}
 use Rattle.pn_join.specs.Marks.{Positions}
-use Rattle.pn_record.specs.declared.image.Image.{Image}
-use Rattle.pn_record.specs.CellMap.{table_of, adds}
+use Rattle.pn_record.specs.declared.records.Image.{Image}
+use Rattle.pn_record.specs.Cells.{table_of, adds}
 use Rattle.pn_record.specs.Reading.{IsLine}
 use Rattle.pn_record.proofs.CellMaps.{adds-table_of, table_of-nil}
-use Rattle.pn_tablet.specs.Copies.{TabletCopyValue}
-use Rattle.pn_tablet.specs.CopyBeginnings.{Begin, IsCut, Reaches}
-use Rattle.pn_tablet.specs.CopyFaults.{IsCutOff, MayCome, HasBadLine, LeavesRange, HasFall, HasBadEnd}
-use Rattle.pn_tablet.specs.CopyLines.{Head, IsValue, AreLines}
-use Rattle.pn_tablet.specs.CopyLineReading.{head_at, line_at}
-use Rattle.pn_tablet.specs.CopyReading.{pieces_of, is_over, after, read_on, copy_in, copy_at}
-use Rattle.pn_tablet.specs.CopyTexts.{comes_after, images_rise, mark_line}
-use Rattle.pn_tablet.specs.Drafts.{DraftValue, empty_draft, copy_of_draft}
-use Rattle.pn_tablet.specs.Ranges.{Ends, in_range}
-use Rattle.pn_tablet.specs.declared.form.Form.{Form}
+use Rattle.pn_tablet.specs.Copies.{TabletCopyValue, DraftValue, empty_draft, copy_of_draft}
+use Rattle.pn_tablet.specs.CopyTexts.{Begin, IsCut, Reaches, IsCutOff, MayCome, HasBadLine, LeavesRange, HasFall, HasBadEnd, Head, IsValue, AreLines, comes_after, images_rise, mark_line}
+use Rattle.pn_tablet.specs.CopyReading.{head_at, line_at, pieces_of, is_over, after, read_on, copy_in, copy_at}
+use Rattle.pn_tablet.specs.Layouts.{Ends, in_range}
+use Rattle.pn_tablet.specs.declared.copy.Form.{Form}
 use Rattle.pn_tablet.specs.declared.copy_line.CopyLine.{CopyLine}
 use Rattle.pn_tablet.specs.declared.copy_line.CopyLine.TheVariants.{Mark, Record, End}
 use Rattle.pn_tablet.specs.declared.fault.CopyTextFault.{CopyTextFault}
 use Rattle.pn_tablet.specs.declared.fault.CopyTextFault.TheVariants.{Truncated, BadLine, OutsideRange, NotRising, BadEnd, Memory}
-use Rattle.pn_tablet.proofs.CopyStarts.{last_with, drafted, text_cut}
+use Rattle.pn_tablet.proofs.CopyTextFacts.{last_with, drafted, text_cut, joined, joined-pieces_of, unbroken-pieces_of}
 use Rattle.pn_tablet.proofs.CopyExchanges.{says_one}
 use Rattle.pn_tablet.proofs.CopyGrammar.{all_inside, sorted_after, sorted_push}
 use Rattle.pn_tablet.proofs.CopyLineCounts.{as_many}
-use Rattle.pn_tablet.proofs.CopyTextFacts.{joined, joined-pieces_of, unbroken-pieces_of}
 use Rattle.pn_tablet.proofs.CopyValues.{line_at-again, line_at-found, head_at-again, head_at-found}
-use Rattle.pn_tablet.proofs.Drafting.{is_after_all}
+use Rattle.pn_tablet.proofs.Keeping.{is_after_all}
 use Rattle.pn_tablet.proofs.LineFaults.{head_or_not, line_or_not}
 
 -- a fault is the one that the text has

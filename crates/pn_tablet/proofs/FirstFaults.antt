@@ -5,26 +5,21 @@ use Rattle.std.specs.Option.{option_map_or}
 use Rattle.pn_line.specs.Text.{text_of}
 use Rattle.pn_line.proofs.TextLaws.{text_of-nil}
 use Rattle.pn_join.specs.Marks.{Positions}
-use Rattle.pn_record.specs.declared.image.Image.{Image}
+use Rattle.pn_record.specs.declared.records.Image.{Image}
 use Rattle.pn_record.specs.Reading.{IsLine}
-use Rattle.pn_tablet.specs.CopyBeginnings.{Begin, IsCut, Reaches}
-use Rattle.pn_tablet.specs.CopyFaults.{IsCutOff, MayCome, HasBadLine, LeavesRange, Falls, HasFall, HasBadEnd}
-use Rattle.pn_tablet.specs.CopyLines.{IsValue}
-use Rattle.pn_tablet.specs.CopyLineReading.{head_at}
-use Rattle.pn_tablet.specs.CopyReading.{pieces_of, is_over, with_mark, with_image, after, read_on, copy_in, copy_at}
-use Rattle.pn_tablet.specs.CopyTexts.{comes_after}
-use Rattle.pn_tablet.specs.Drafts.{DraftValue, copy_of_draft}
-use Rattle.pn_tablet.specs.Ranges.{Ends, in_range}
-use Rattle.pn_tablet.specs.declared.form.Form.{Form}
+use Rattle.pn_tablet.specs.CopyTexts.{Begin, IsCut, Reaches, IsCutOff, MayCome, HasBadLine, LeavesRange, Falls, HasFall, HasBadEnd, IsValue, comes_after}
+use Rattle.pn_tablet.specs.CopyReading.{head_at, pieces_of, is_over, with_mark, with_image, after, read_on, copy_in, copy_at}
+use Rattle.pn_tablet.specs.Copies.{DraftValue, copy_of_draft}
+use Rattle.pn_tablet.specs.Layouts.{Ends, in_range}
+use Rattle.pn_tablet.specs.declared.copy.Form.{Form}
 use Rattle.pn_tablet.specs.declared.copy_line.CopyLine.{CopyLine}
 use Rattle.pn_tablet.specs.declared.copy_line.CopyLine.TheVariants.{Mark, Record, End}
 use Rattle.pn_tablet.specs.declared.fault.CopyTextFault.TheVariants.{Truncated, BadLine, OutsideRange, NotRising, BadEnd, Memory}
-use Rattle.pn_tablet.proofs.CopyStarts.{last_with, drafted, begun_read, text_cut, last_unbroken, reached}
+use Rattle.pn_tablet.proofs.CopyTextFacts.{last_with, drafted, begun_read, text_cut, last_unbroken, reached}
 use Rattle.pn_tablet.proofs.CopyGrammar.{sorted_push}
-use Rattle.pn_tablet.proofs.CopyPieces.{pieces_of-last, pieces_of-line, is_over-pieces_of}
-use Rattle.pn_tablet.proofs.CopySteps.{read_on-bad, read_on-said, read_on-last, copy_at-bad, then_err}
+use Rattle.pn_tablet.proofs.CopySteps.{pieces_of-last, pieces_of-line, is_over-pieces_of, read_on-bad, read_on-said, read_on-last, copy_at-bad, then_err}
 use Rattle.pn_tablet.proofs.CopyValues.{line_at-again, line_at-found}
-use Rattle.pn_tablet.proofs.Drafting.{is_after_all}
+use Rattle.pn_tablet.proofs.Keeping.{is_after_all}
 use Rattle.pn_tablet.proofs.FaultCases.{IsRight, right_at, last_none, rise_push, begin_count}
 use Rattle.pn_tablet.proofs.LineFaults.{line_or_not, head_at-none}
 

@@ -8,10 +8,9 @@ use Rattle.pn_json.specs.Members.{whole_number, member_as, only_named, no_others
 use Rattle.pn_record.specs.Grammar.{image_in}
 use Rattle.pn_record.specs.Marks.{is_mark}
 use Rattle.pn_record.specs.Reading.{IsLine, value_at}
-use Rattle.pn_tablet.specs.CopyLines.{Head, IsHead, is_range}
-use Rattle.pn_tablet.specs.CopyLineReading.{or_as, if_fits, end_of, head_in, mark_in, end_in, record_in, line_in, head_at, line_at}
-use Rattle.pn_tablet.specs.Forms.{form_at, may_hold}
-use Rattle.pn_tablet.specs.declared.form.Form.{Form}
+use Rattle.pn_tablet.specs.CopyTexts.{Head, IsHead, is_range, form_at, may_hold}
+use Rattle.pn_tablet.specs.CopyReading.{or_as, if_fits, end_of, head_in, mark_in, end_in, record_in, line_in, head_at, line_at}
+use Rattle.pn_tablet.specs.declared.copy.Form.{Form}
 use Rattle.pn_tablet.specs.declared.copy_line.CopyLine.{CopyLine}
 use Rattle.pn_tablet.specs.declared.copy_line.CopyLine.TheVariants.{Mark, Record, End}
 use Rattle.pn_tablet.proofs.CopyValues.{head_at-found}

@@ -1,15 +1,84 @@
--- The cells whose keys lie in a range are a slice of all.
-use Rattle.std.proofs.Common.{◌≡◌, ℕ, suc, ◌+◌, ◌-◌, ◌≤◌, Bool, true, false, not, ◌&&◌, cond, List, [], ◌∷◌, length, take, drop, slice_range, filter, count_by, Option, Some, None, Less, IsTrue, refl, sym, ap, ◌∙◌, arith, one-add, zero-add}
+-- Keys that pass the tests of a range, how many do, and that their cells are a slice of all.
+use Rattle.std.proofs.Common.{◌≡◌, ℕ, suc, ◌+◌, ◌≤◌, Bool, true, false, ◌&&◌, cond, eqb, List, [], ◌∷◌, length, count_by, refl, ap, ◌∙◌, arith, zero-add, one-add, Option, None, sym, ◌-◌, not, take, drop, slice_range, filter, Some, Less, IsTrue}
+use Rattle.std.specs.List.{list_all}
+use Rattle.std.proofs.lemmas.List.Sums.{count_by-le-length, sum_by-cons}
+use Rattle.std.proofs.lemmas.Bool.Decides.{nat_tests}
 use Rattle.std.proofs.lemmas.Cmp.{nat_list_cmp_total}
-use Rattle.std.proofs.lemmas.List.Sums.{sum_by-cons}
 use Rattle.std.specs.FinMap.{is_sorted}
 use Rattle.std.specs.Ordering.{is_lt}
 use Rattle.pn_join.proofs.Rising.{Below, Rising, Rising-from_sorted}
-use Rattle.pn_record.specs.Order.{bytes_cmp}
-use Rattle.pn_record.specs.Sets.{CellValue}
-use Rattle.pn_record.specs.CellMap.{Entries}
+use Rattle.pn_record.specs.Cells.{Entries}
+use Rattle.pn_record.specs.Sets.{bytes_cmp, CellValue}
 use Rattle.pn_record.proofs.Sorted.{is_less}
-use Rattle.pn_tablet.specs.Ranges.{Ends, is_below, is_from, is_before, in_range, are_ends}
+use Rattle.pn_tablet.specs.Layouts.{Ends, is_from, is_before, is_below, in_range, are_ends}
+use Rattle.pn_tablet.specs.Tablets.{lie_in}
+
+-- Tests of all items of a list, and how many pass.
+
+both_first : (a b c d : Bool) → ((a && b) && (c && d)) ≡ ((a && c) && (b && d))
+both_first true true c d = refl
+both_first true false true d = refl
+both_first true false false d = refl
+both_first false b c d = refl
+
+same_next : (n l : ℕ) → eqb (suc n) (suc l) ≡ eqb n l
+same_next n l = grind (arith, nat_tests)
+
+not_same : (n l : ℕ) → n ≤ l → eqb n (suc l) ≡ false
+not_same n l below = grind (arith, nat_tests)
+
+counted_first : (b : Bool) (n l : ℕ) (rest : Bool) → n ≤ l → eqb n l ≡ rest → eqb (cond b 1 0 + n) (suc l) ≡ (b && rest)
+counted_first true n l rest below same = ap (λ m. eqb m (suc l)) (one-add n) ∙ same_next n l ∙ same
+counted_first false n l rest below same = ap (λ m. eqb m (suc l)) (zero-add n) ∙ not_same n l below
+
+module _ {X : Type 0} where
+  -- a test that everything passes
+  pub all_pass : (xs : List X) → true ≡ list_all (λ _. true) xs
+  all_pass [] = refl
+  all_pass (x ∷ xs) = all_pass xs
+
+  -- all pass both tests where all pass each
+  pub all_both : (p q : X → Bool) (xs : List X) → (list_all p xs && list_all q xs) ≡ list_all (λ x. p x && q x) xs
+  all_both p q [] = refl
+  all_both p q (x ∷ xs) = both_first (p x) (list_all p xs) (q x) (list_all q xs) ∙ ap (λ rest. (p x && q x) && rest) (all_both p q xs)
+
+  -- where all pass, the number that pass is that of all
+  pub all_counted : (p : X → Bool) (xs : List X) → eqb (count_by p xs) (length xs) ≡ list_all p xs
+  all_counted p [] = refl
+  all_counted p (x ∷ xs) =
+      ap (λ n. eqb n (suc (length xs))) (sum_by-cons (λ y. cond (p y) 1 0) x xs)
+      ∙ counted_first (p x) (count_by p xs) (length xs) (list_all p xs) (count_by-le-length p xs) (all_counted p xs)
+
+-- Keys that pass the tests of both ends of a range.
+
+abbrev pub all_from : Option (List ℕ) → Entries → Bool
+all_from from cells = list_all (λ entry. is_from from entry.0) cells
+
+abbrev pub all_before : Option (List ℕ) → Entries → Bool
+all_before to cells = list_all (λ entry. is_before to entry.0) cells
+
+-- where there is no end all keys pass
+pub all_from-none : (from : Option (List ℕ)) (cells : Entries) → from ≡ None → true ≡ all_from from cells
+all_from-none from cells none = all_pass cells ∙ ap (λ o. all_from o cells) (sym none)
+
+pub all_before-none : (to : Option (List ℕ)) (cells : Entries) → to ≡ None → true ≡ all_before to cells
+all_before-none to cells none = all_pass cells ∙ ap (λ o. all_before o cells) (sym none)
+
+pub lie_in-both : (range : Ends) (cells : Entries) → (all_from range.0 cells && all_before range.1 cells) ≡ lie_in range cells
+lie_in-both range cells = all_both (λ entry. is_from range.0 entry.0) (λ entry. is_before range.1 entry.0) cells
+
+-- and by the answers of the two tests
+pub lie_in-then : (range : Ends) (from to : Option (List ℕ)) (cells : Entries) (first second : Bool) → first ≡ all_from from cells → from ≡ range.0 → first ≡ true
+    → second ≡ all_before to cells → to ≡ range.1 → second ≡ lie_in range cells
+lie_in-then range from to cells first second is same passes is_too same_too =
+    is_too ∙ ap (λ o. all_before o cells) same_too
+    ∙ ap (λ b. b && all_before range.1 cells) (sym passes ∙ is ∙ ap (λ o. all_from o cells) same) ∙ lie_in-both range cells
+
+pub lie_in-else : (range : Ends) (from : Option (List ℕ)) (cells : Entries) (first : Bool) → first ≡ all_from from cells → from ≡ range.0 → first ≡ false → first ≡ lie_in range cells
+lie_in-else range from cells first is same fails =
+    fails ∙ ap (λ b. b && all_before range.1 cells) (sym fails ∙ is ∙ ap (λ o. all_from o cells) same) ∙ lie_in-both range cells
+
+-- The cells whose keys lie in a range are a slice of all.
 
 -- the keys that pass a test come first: whatever is less than one that passes passes
 abbrev pub PassFirst : (List ℕ → Bool) → Type 0
@@ -136,6 +205,6 @@ pub none_below : (cells : Entries) → 0 ≡ count_by (λ entry. not (is_from No
 none_below [] = refl
 none_below (e ∷ es) = none_below es ∙ sym (counted (λ key. not (is_from None key)) e es false refl ∙ zero-add _)
 
-pub all_before : (cells : Entries) → length cells ≡ count_by (λ entry. is_before None entry.0) cells
-all_before [] = refl
-all_before (e ∷ es) = ap suc (all_before es) ∙ sym (counted (λ key. is_before None key) e es true refl ∙ one-add _)
+pub all_come_before : (cells : Entries) → length cells ≡ count_by (λ entry. is_before None entry.0) cells
+all_come_before [] = refl
+all_come_before (e ∷ es) = ap suc (all_come_before es) ∙ sym (counted (λ key. is_before None key) e es true refl ∙ one-add _)

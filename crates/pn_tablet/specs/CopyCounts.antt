@@ -2,8 +2,7 @@
 use Rattle.std.specs.Prelude.{◌≡◌, ◌≤◌, ◌<◌, ℕ, ◌+◌, ◌^◌, length, Result, Ok, Err}
 use Rattle.pn_join.specs.declared.memory.NoMemory.{NoMemory}
 use Rattle.pn_tablet.specs.Copies.{TabletCopyValue}
-use Rattle.pn_tablet.specs.CopyMaking.{CopyCountValue, lines_of_copy}
-use Rattle.pn_tablet.specs.CopyWriting.{copy_text}
+use Rattle.pn_tablet.specs.CopyWriting.{CopyCountValue, lines_of_copy, copy_text}
 use Rattle.pn_tablet.specs.declared.copy_count.CopyStep.{CopyStep}
 use Rattle.pn_tablet.specs.declared.copy_count.CopyStep.TheVariants.{Done, Next}
 use Rattle.pn_tablet.specs.declared.copy_count.LineCount.{LineCount}

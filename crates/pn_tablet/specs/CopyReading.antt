@@ -1,23 +1,94 @@
--- A text read line by line: the copy that it spells, or its first fault.
-use Rattle.std.specs.Prelude.{ℕ, ◌+◌, ◌-◌, ◌==◌, Bool, true, false, not, ◌&&◌, if◌then◌else◌, List, [], ◌∷◌, ◌++◌, Some, is_some, Result, Ok, Err}
+-- A text read line by line, all at once or in chunks: the copy that it spells, or its first fault.
+use Rattle.std.specs.Prelude.{ℕ, Bool, if◌then◌else◌, List, [], ◌∷◌, codes, Option, None, Some, is_some, Result, Ok, Err, ◌+◌, ◌-◌, ◌==◌, true, false, not, ◌&&◌, ◌++◌, ◌≡◌, All, IsTrue}
+use Rattle.std.specs.Option.{ok_or, option_map_or}
 use Rattle.std.specs.List.{list_all}
-use Rattle.std.specs.Option.{option_map_or}
 use Rattle.std.specs.Ordering.{is_lt}
-use Rattle.pn_line.specs.Text.{onto_first}
-use Rattle.pn_join.specs.Marks.{name_cmp}
+use Rattle.serde_json.specs.Data.{Data, null, string}
+use Rattle.serde_json.specs.Find.{get, as_str, as_object}
+use Rattle.pn_line.specs.Text.{onto_first, text_of}
+use Rattle.pn_line.specs.Line.{IsUnbroken}
+use Rattle.pn_join.specs.Marks.{name_cmp, is_position}
 use Rattle.pn_json.specs.Answers.{◌>>=◌}
-use Rattle.pn_record.specs.declared.image.Image.{Image}
-use Rattle.pn_record.specs.CellMap.{adds}
-use Rattle.pn_tablet.specs.Copies.{TabletCopyValue}
-use Rattle.pn_tablet.specs.CopyLineReading.{head_at, line_at}
-use Rattle.pn_tablet.specs.CopyTexts.{comes_after}
-use Rattle.pn_tablet.specs.Drafts.{DraftValue, empty_draft, copy_of_draft}
-use Rattle.pn_tablet.specs.Ranges.{in_range}
-use Rattle.pn_tablet.specs.declared.form.Form.{Form}
+use Rattle.pn_json.specs.Members.{whole_number, member_as, no_others}
+use Rattle.pn_record.specs.Grammar.{image_in}
+use Rattle.pn_record.specs.Marks.{is_mark}
+use Rattle.pn_record.specs.Reading.{value_at, IsLine}
+use Rattle.pn_record.specs.declared.records.Image.{Image}
+use Rattle.pn_record.specs.Cells.{adds}
+use Rattle.pn_tablet.specs.CopyTexts.{Head, is_range, IsValue, AreLines, form_at, may_hold, comes_after}
+use Rattle.pn_tablet.specs.declared.copy.Form.{Form}
 use Rattle.pn_tablet.specs.declared.copy_line.CopyLine.{CopyLine}
 use Rattle.pn_tablet.specs.declared.copy_line.CopyLine.TheVariants.{Mark, Record, End}
+use Rattle.pn_tablet.specs.Copies.{TabletCopyValue, DraftValue, empty_draft, copy_of_draft}
+use Rattle.pn_tablet.specs.Layouts.{in_range}
 use Rattle.pn_tablet.specs.declared.fault.CopyTextFault.{CopyTextFault}
 use Rattle.pn_tablet.specs.declared.fault.CopyTextFault.TheVariants.{Truncated, BadLine, OutsideRange, NotRising, BadEnd}
+
+-- The lines of a copy's text, read one by one.
+
+-- any fault as this one
+abbrev pub or_as : {A E F : Type 0} → F → Result A E → Result A F
+or_as fault (Ok value) = Ok value
+or_as fault (Err other) = Err fault
+
+-- the value, where it keeps the limits
+abbrev pub if_fits : {A F : Type 0} → Bool → F → A → Result A F
+if_fits fits fault value = if fits then Ok value else Err fault
+
+-- an end of a range: a text, or null where the range is open
+abbrev pub end_of : Data → Option (Option (List ℕ))
+end_of null = Some None
+end_of (string key) = Some (Some key)
+end_of _ = None
+
+-- the form and the range of a head
+unfoldable pub head_in : {F : Type 0} → F → Data → Result Head F
+head_in fault d = do
+  members ← ok_or (as_object d) fault
+  number ← member_as whole_number fault (get (codes "copy") d)
+  from ← member_as end_of fault (get (codes "from") d)
+  to ← member_as end_of fault (get (codes "to") d)
+  named ← no_others (codes "copy" ∷ codes "from" ∷ codes "to" ∷ []) fault members
+  form ← ok_or (form_at number) fault
+  range ← if_fits (is_range (from, to)) fault (from, to)
+  Ok (form, range)
+
+-- a mark: a stream's name, and a position of 1 to 10^15
+unfoldable pub mark_in : {F : Type 0} → F → Data → Result CopyLine F
+mark_in fault d = do
+  members ← ok_or (as_object d) fault
+  position ← member_as whole_number fault (get (codes "at") d)
+  name ← member_as as_str fault (get (codes "stream") d)
+  named ← no_others (codes "at" ∷ codes "stream" ∷ []) fault members
+  if_fits (is_mark (name, position)) fault (Mark name position)
+
+-- an end
+unfoldable pub end_in : {F : Type 0} → F → Data → Result CopyLine F
+end_in fault d = do
+  members ← ok_or (as_object d) fault
+  count ← member_as whole_number fault (get (codes "end") d)
+  named ← no_others (codes "end" ∷ []) fault members
+  Ok (End count)
+
+-- an image that may stand in a copy of the form
+unfoldable pub record_in : {F : Type 0} → Form → F → Data → Result CopyLine F
+record_in form fault d = do
+  image ← or_as fault (image_in d)
+  if_fits (may_hold form image) fault (Record image)
+
+-- a line after the head: a mark where it has a member `at`, an end where it has `end`, otherwise an image
+unfoldable pub line_in : {F : Type 0} → Form → F → Data → Result CopyLine F
+line_in form fault d = if is_some (get (codes "at") d) then mark_in fault d else (if is_some (get (codes "end") d) then end_in fault d else record_in form fault d)
+
+-- the form and the range of a head's line, or the fault
+unfoldable pub head_at : {F : Type 0} → F → List ℕ → Result Head F
+head_at fault line = or_as fault (value_at line) >>= head_in fault
+
+-- what a line after the head says, or the fault
+unfoldable pub line_at : {F : Type 0} → Form → F → List ℕ → Result CopyLine F
+line_at form fault line = or_as fault (value_at line) >>= line_in form fault
+
+-- A text read line by line: the copy that it spells, or its first fault.
 
 -- the pieces of a text between its newlines: its lines, and then the rest, which has no newline
 unfoldable pub pieces_of : List ℕ → List (List ℕ)
@@ -79,3 +150,34 @@ copy_in (head ∷ piece ∷ pieces) = head_at (BadLine 1) head >>= λ read. read
 -- the copy that the text spells, or the fault of the first line that has one
 unfoldable pub copy_at : List ℕ → Result TabletCopyValue CopyTextFault
 copy_at text = copy_in (pieces_of text)
+
+-- The first lines of a text that follows the head of a copy, read before those that come before it.
+
+-- a mark at a position of a message, or an image
+abbrev pub IsMarkOrImage : CopyLine → Type 0
+IsMarkOrImage (Mark name position) = IsTrue (is_position position)
+IsMarkOrImage (Record image) = Unit {0}
+IsMarkOrImage (End count) = ⊥
+
+-- a line that says the end
+abbrev pub says_end : CopyLine → Bool
+says_end (End count) = true
+says_end _ = false
+
+-- the line is that of this mark or image
+abbrev pub IsLineOf : Form → List ℕ → CopyLine → Type 0
+IsLineOf form line says = IsLine (IsValue form) line says × IsMarkOrImage says
+
+-- the text is whole lines, those of these marks and images, and then this rest
+pub record BeginsWith (form : Form) (text : List ℕ) (says : List CopyLine) (rest : List ℕ) : Type 0 where
+  pub lines : List (List ℕ)
+  pub text_is : text ≡ text_of lines ++ rest
+  pub unbroken : All IsUnbroken lines
+  pub lines_are : AreLines form lines says
+  pub kinds : All IsMarkOrImage says
+
+-- the mark or image of the line is added at the end
+pub record AddsLine (form : Form) (line : List ℕ) (old new : List CopyLine) : Type 0 where
+  pub said : CopyLine
+  pub line_is : IsLineOf form line said
+  pub grown : new ≡ old ++ said ∷ []

@@ -1,7 +1,7 @@
 //! The changes that a join makes to the cells of keys.
 
 ghost use Rattle.std.specs.Prelude.{◌≡◌, ◌≤◌, [], length, map, vec_capacity, IfOk};
-ghost use Rattle.pn_tablet.specs.Changes.{reported_change, version_at};
+ghost use Rattle.pn_tablet.specs.Steps.{reported_change, version_at};
 
 use pn_join::{NoMemory, TableChange};
 use pn_record::{Cell, Key, Version};
@@ -23,20 +23,20 @@ pub fn reserve_changes(alloc: Global, count: usize) -> Result<Vec<Change>, NoMem
 }
 
 /// Adds the changes that a join reports, to an empty list.
-pub fn add_changes(changes: &mut Vec<Change>, told: Vec<TableChange<Key, Cell>>)
+pub fn add_changes(changes: &mut Vec<Change>, table_changes: Vec<TableChange<Key, Cell>>)
     requires none { changes.old.items ≡ [] }
-    requires capacity { length told.items ≤ vec_capacity changes.old }
-    ensures { changes.new.items ≡ map reported_change told.items }
+    requires capacity { length table_changes.items ≤ vec_capacity changes.old }
+    ensures { changes.new.items ≡ map reported_change table_changes.items }
 {
-    for change in told {
+    for change in table_changes {
         changes.push_reserved(change_of(change));
     }
 }
 
-fn change_of(told: TableChange<Key, Cell>) -> Change
-    ensures { result ≡ reported_change told }
+fn change_of(table_changes: TableChange<Key, Cell>) -> Change
+    ensures { result ≡ reported_change table_changes }
 {
-    let TableChange { key, before, after } = told;
+    let TableChange { key, before, after } = table_changes;
     Change {
         key,
         before: version_of(&before),

@@ -4,16 +4,14 @@ ghost use Rattle.std.specs.Prelude.{◌≡◌, ◌≤◌, ◌<◌, ◌+◌, ◌^
 ghost use Rattle.pn_line.specs.Prelude.{IsUnbroken};
 ghost use Rattle.pn_json.specs.Prelude.{IsUnless};
 ghost use Rattle.pn_tablet.specs.Copies.{TabletCopyValue};
-ghost use Rattle.pn_tablet.specs.CopyChunks.{AddsLine, BeginsWith, IsLineOf, IsMarkOrImage, says_end};
-ghost use Rattle.pn_tablet.specs.CopyReading.{pieces_of, read_on, copy_at, with_line, with_lines};
-ghost use Rattle.pn_tablet.specs.CopyTexts.{IsCopyText};
-ghost use Rattle.pn_tablet.specs.Refusals.{Answers};
-ghost use Rattle.pn_tablet.specs.CopyFaults.{is_memory};
+ghost use Rattle.pn_tablet.specs.CopyReading.{AddsLine, BeginsWith, IsLineOf, IsMarkOrImage, says_end, pieces_of, read_on, copy_at, with_line, with_lines};
+ghost use Rattle.pn_tablet.specs.CopyTexts.{IsCopyText, is_memory};
+ghost use Rattle.pn_tablet.specs.Steps.{Answers};
 
+use crate::copy::Form;
 use crate::copy_draft::CopyDraft;
 use crate::copy_line::{CopyLine, read_head, read_line};
 use crate::copy_reading::{cut_line, read_copy, read_lines};
-use crate::form::Form;
 use crate::{CopyTextFault, TabletCopy};
 use memchr::memchr;
 use std::alloc::Global;

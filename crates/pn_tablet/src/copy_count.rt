@@ -5,12 +5,12 @@ ghost use Rattle.std.specs.FinMap.{keys};
 ghost use Rattle.std.specs.List.{list_any};
 ghost use Rattle.pn_record.specs.Prelude.{holds_number as content_holds_number, spell};
 ghost use Rattle.pn_tablet.specs.CopyCounts.{CountsOn, CountsTo};
-ghost use Rattle.pn_tablet.specs.CopyMaking.{IsCountedIn, lines_of_copy};
-ghost use Rattle.pn_tablet.specs.Weights.{record_weight as weighs};
-ghost use Rattle.pn_tablet.specs.declared.form.Form.TheVariants.{Numbers};
+ghost use Rattle.pn_tablet.specs.CopyWriting.{IsCountedIn, lines_of_copy};
+ghost use Rattle.pn_tablet.specs.Tablets.{record_weight as weighs};
+ghost use Rattle.pn_tablet.specs.declared.copy.Form.TheVariants.{Numbers};
 
+use crate::copy::{Form, holds_number};
 use crate::copy_text::recall_size;
-use crate::form::{Form, holds_number};
 use crate::weight::record_weight;
 use crate::{CopyText, TabletCopy};
 use pn_join::NoMemory;
@@ -34,7 +34,7 @@ struct LineCount {
 }
 
 impl Model for CopyCount {
-    ghost use Rattle.pn_tablet.specs.CopyMaking.{CopyCountValue, IsCountedIn, count_code};
+    ghost use Rattle.pn_tablet.specs.CopyWriting.{CopyCountValue, IsCountedIn, count_code};
 
     ghost Value = { CopyCountValue };
 

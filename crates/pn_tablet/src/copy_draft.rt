@@ -6,11 +6,10 @@ ghost use Rattle.std.specs.Option.{option_copied, option_map_or};
 ghost use Rattle.std.specs.Ordering.{is_lt};
 ghost use Rattle.pn_join.specs.Prelude.{is_position, name_cmp};
 ghost use Rattle.pn_record.specs.Prelude.{spell, table_of};
-ghost use Rattle.pn_tablet.specs.CopyFaults.{is_memory};
+ghost use Rattle.pn_tablet.specs.CopyTexts.{is_memory, comes_after};
 ghost use Rattle.pn_tablet.specs.CopyReading.{with_mark, with_image, finish};
-ghost use Rattle.pn_tablet.specs.CopyTexts.{comes_after};
-ghost use Rattle.pn_tablet.specs.Drafts.{empty_draft, with_last};
-ghost use Rattle.pn_tablet.specs.Refusals.{Answers};
+ghost use Rattle.pn_tablet.specs.Copies.{empty_draft, with_last};
+ghost use Rattle.pn_tablet.specs.Steps.{Answers};
 
 use crate::{CopyTextFault, Range, TabletCopy};
 use pn_join::{Marks, NoMemory, StreamName, raise_at};
@@ -30,8 +29,8 @@ pub(crate) struct CopyDraft {
 }
 
 impl Model for CopyDraft {
-    ghost use Rattle.pn_tablet.specs.Drafts.{DraftValue, IsDraft, with_last};
-    ghost use Rattle.pn_tablet.specs.Proofs.DraftCoding.{draft_code};
+    ghost use Rattle.pn_tablet.specs.Copies.{DraftValue, IsDraft, with_last};
+    ghost use Rattle.pn_tablet.specs.Proofs.{draft_code};
 
     ghost Value = { DraftValue };
 

@@ -4,10 +4,10 @@ ghost use Rattle.std.specs.Prelude.{◌≡◌};
 ghost use Rattle.serde_json.specs.View.{view};
 ghost use Rattle.pn_json.specs.Prelude.{IsUnless, Shows, ShowsUnless, seen, member_as, seen_text};
 ghost use Rattle.pn_record.specs.Prelude.{value_at};
-ghost use Rattle.pn_tablet.specs.CopyLines.{is_range};
-ghost use Rattle.pn_tablet.specs.CopyLineReading.{end_of as end_spelled, or_as, if_fits, head_in, mark_in, end_in, record_in, head_at, line_at};
+ghost use Rattle.pn_tablet.specs.CopyTexts.{is_range};
+ghost use Rattle.pn_tablet.specs.CopyReading.{end_of as end_spelled, or_as, if_fits, head_in, mark_in, end_in, record_in, head_at, line_at};
 
-use crate::form::Form;
+use crate::copy::Form;
 use crate::{CopyTextFault, Range};
 use pn_join::{LAST_POSITION, Name, StreamName};
 use pn_json::{check_names, text_of, whole_number_of};
@@ -27,7 +27,7 @@ pub(crate) enum CopyLine {
 }
 
 /// The form and the range of the head that the line is, or the fault.
-#[tactic(auto, unfolding(crate::specs::CopyLineReading::head_at))]
+#[tactic(auto, unfolding(crate::specs::CopyReading::head_at))]
 pub(crate) fn read_head(
     alloc: Global,
     line: &[u8],
@@ -40,7 +40,7 @@ pub(crate) fn read_head(
 }
 
 /// The line after the head that is read, or the fault.
-#[tactic(auto, unfolding(crate::specs::CopyLineReading::line_at, crate::specs::CopyLineReading::line_in))]
+#[tactic(auto, unfolding(crate::specs::CopyReading::line_at, crate::specs::CopyReading::line_in))]
 pub(crate) fn read_line(
     alloc: Global,
     form: Form,
@@ -70,7 +70,7 @@ fn read_json(alloc: Global, line: &[u8], fault: CopyTextFault) -> Result<Value, 
     }
 }
 
-#[tactic(auto, unfolding(crate::specs::CopyLineReading::head_in))]
+#[tactic(auto, unfolding(crate::specs::CopyReading::head_in))]
 fn head_of(
     alloc: Global,
     value: &Value,
@@ -120,7 +120,7 @@ fn range_of(
     Range::new(from, to).ok_or(fault)
 }
 
-#[tactic(auto, unfolding(crate::specs::CopyLineReading::mark_in))]
+#[tactic(auto, unfolding(crate::specs::CopyReading::mark_in))]
 fn mark_of(value: &Value, fault: CopyTextFault) -> Result<CopyLine, CopyTextFault>
     ensures { result ≡ mark_in fault (view value.now) }
 {
@@ -134,7 +134,7 @@ fn mark_of(value: &Value, fault: CopyTextFault) -> Result<CopyLine, CopyTextFaul
     Ok(CopyLine::Mark(Name::of(name.as_bytes()), position))
 }
 
-#[tactic(auto, unfolding(crate::specs::CopyLineReading::end_in))]
+#[tactic(auto, unfolding(crate::specs::CopyReading::end_in))]
 fn end_line_of(value: &Value, fault: CopyTextFault) -> Result<CopyLine, CopyTextFault>
     ensures { result ≡ end_in fault (view value.now) }
 {
@@ -144,7 +144,7 @@ fn end_line_of(value: &Value, fault: CopyTextFault) -> Result<CopyLine, CopyText
     Ok(CopyLine::End(count))
 }
 
-#[tactic(auto, unfolding(crate::specs::CopyLineReading::record_in))]
+#[tactic(auto, unfolding(crate::specs::CopyReading::record_in))]
 fn record_of(
     alloc: Global,
     form: Form,

@@ -3,16 +3,15 @@
 ghost use Rattle.std.specs.Prelude.{◌≡◌, ◌+◌, ◌<◌, ◌↔◌, ◌^◌, [], length, nat_lt, IsTrue, if◌then◌else◌};
 ghost use Rattle.pn_json.specs.Prelude.{MakesPiece};
 ghost use Rattle.pn_record.specs.Prelude.{spell};
-ghost use Rattle.pn_tablet.specs.CopyMaking.{IsCopyCursor, IsTextOf, lines_of_copy, MakesLine};
-ghost use Rattle.pn_tablet.specs.CopyWriting.{copy_text};
-ghost use Rattle.pn_tablet.specs.Forms.{form_of};
-ghost use Rattle.pn_tablet.specs.Weights.{entries_weight as weight_of};
-ghost use Rattle.pn_tablet.specs.declared.copy_line_appending.TheConstants.{MAX_COPY_LINE_BYTES};
+ghost use Rattle.pn_tablet.specs.CopyWriting.{IsCopyCursor, IsTextOf, lines_of_copy, MakesLine, copy_text};
+ghost use Rattle.pn_tablet.specs.CopyTexts.{form_of};
+ghost use Rattle.pn_tablet.specs.Tablets.{entries_weight as weight_of};
+ghost use Rattle.pn_tablet.specs.declared.copy_line_writing.TheConstants.{MAX_COPY_LINE_BYTES};
 ghost use Rattle.pn_tablet.specs.declared.copy_text.CopyCursor.TheVariants.{Image, Mark, Written};
 
 use crate::TabletCopy;
-use crate::copy_line_appending::{append_end, append_head, append_image_line, append_mark};
-use crate::form::Form;
+use crate::copy::Form;
+use crate::copy_line_writing::{append_end, append_head, append_image_line, append_mark};
 use pn_join::Marks;
 use pn_record::Records;
 use std::marker::Model;
@@ -41,8 +40,8 @@ enum CopyCursor {
 
 impl Model for CopyText {
     ghost use Rattle.std.specs.Prelude.{◌≡◌};
-    ghost use Rattle.pn_tablet.specs.CopyMaking.{CopyTextValue, IsTextOf, copy_rest, text_code};
-    ghost use Rattle.pn_tablet.specs.Weights.{entries_weight};
+    ghost use Rattle.pn_tablet.specs.CopyWriting.{CopyTextValue, IsTextOf, copy_rest, text_code};
+    ghost use Rattle.pn_tablet.specs.Tablets.{entries_weight};
 
     ghost Value = { CopyTextValue };
 
@@ -71,7 +70,7 @@ impl CopyText {
     }
 
     /// How many lines the text of the copy has.
-    pub fn lines(&self) -> u64
+    pub fn line_count(&self) -> u64
         ensures { result ≡ lines_of_copy self.now.copy }
     {
         self.lines

@@ -5,11 +5,11 @@ ghost use Rattle.std.specs.FinMap.{find, is_sorted};
 ghost use Rattle.pn_join.specs.Prelude.{AreChanges, optional_joined};
 ghost use Rattle.pn_record.specs.Cells.{Holds};
 ghost use Rattle.pn_record.specs.Prelude.{HasContents, bytes_cmp, cell_joined, spell};
-ghost use Rattle.pn_tablet.specs.Counting.{counts_of, deleted_in, is_deleted as deletes, was_deleted as deleted_before};
+ghost use Rattle.pn_tablet.specs.Tablets.{counts_of, deleted_in, is_deleted as deletes, was_deleted as deleted_before};
 
 use crate::copy_text::recall_size;
 use pn_join::{Dup, NoMemory, TableChange};
-use pn_record::{Cell, CellState, Key, Records, join_and_tell, join_records};
+use pn_record::{Cell, CellState, Key, Records, join_records, join_with_changes};
 use std::alloc::Global;
 use std::marker::Model;
 
@@ -31,9 +31,9 @@ pub(crate) struct CountedCells {
 
 impl Model for CountedCells {
     ghost use Rattle.std.specs.Prelude.{◌≡◌};
-    ghost use Rattle.pn_record.specs.CellMap.{Entries};
-    ghost use Rattle.pn_tablet.specs.Counting.{deleted_in};
-    ghost use Rattle.pn_tablet.specs.Proofs.Coding.{entries_code};
+    ghost use Rattle.pn_record.specs.Cells.{Entries};
+    ghost use Rattle.pn_tablet.specs.Tablets.{deleted_in};
+    ghost use Rattle.pn_tablet.specs.Proofs.{entries_code};
 
     ghost Value = { Entries };
 
@@ -82,7 +82,7 @@ impl CountedCells {
 
     /// Joins other cells into these, and returns the keys whose cells changed, in key order. An error leaves them as
     /// they were.
-    pub fn join_and_tell(
+    pub fn join_with_changes(
         &mut self,
         other: &Records,
     ) -> Result<Vec<TableChange<Key, Cell>>, NoMemory>
@@ -95,11 +95,11 @@ impl CountedCells {
     {
         self.cells.recall_table();
         other.recall_table();
-        let told = join_and_tell(&mut self.cells, other)?;
+        let table_changes = join_with_changes(&mut self.cells, other)?;
         let count = self.cells.len();
-        let (come, gone) = count_moved(&told);
+        let (come, gone) = count_moved(&table_changes);
         self.deleted = count_after(count, self.deleted, come, gone);
-        Ok(told)
+        Ok(table_changes)
     }
 
     /// Joins other cells into these, and counts all that are then deleted. An error leaves them as they were.
@@ -129,13 +129,13 @@ fn count_after(most: usize, before: usize, come: usize, gone: usize) -> usize
 }
 
 // How many changes bring a deleted cell, and how many take one away.
-fn count_moved(told: &[TableChange<Key, Cell>]) -> (usize, usize)
-    ensures come { result.0 ≡ count_by (λ change. deletes change.after) told.now }
-    ensures gone { result.1 ≡ count_by (λ change. deleted_before change.before) told.now }
+fn count_moved(table_changes: &[TableChange<Key, Cell>]) -> (usize, usize)
+    ensures come { result.0 ≡ count_by (λ change. deletes change.after) table_changes.now }
+    ensures gone { result.1 ≡ count_by (λ change. deleted_before change.before) table_changes.now }
 {
     let mut come = 0;
     let mut gone = 0;
-    for change in told {
+    for change in table_changes {
         if is_deleted(&change.after) {
             come += 1;
         }

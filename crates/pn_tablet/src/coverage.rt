@@ -18,7 +18,7 @@ pub(crate) struct Coverage {
 
 impl Model for Coverage {
     ghost use Rattle.std.specs.Prelude.{unwrap_or};
-    ghost use Rattle.pn_tablet.specs.Proofs.Coding.{coverage_code};
+    ghost use Rattle.pn_tablet.specs.Proofs.{coverage_code};
     ghost use Rattle.pn_tablet.specs.Tablets.{CoverageValue, IsCoverage};
 
     ghost Value = { CoverageValue };

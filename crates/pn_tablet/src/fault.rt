@@ -1,7 +1,7 @@
 //! Why an operation, a copy or the text of a copy was refused.
 
 ghost use Rattle.std.specs.Prelude.{◌≡◌};
-ghost use Rattle.pn_tablet.specs.Needs.{first_shortfall as the_first_shortfall};
+ghost use Rattle.pn_tablet.specs.Tablets.{first_shortfall as the_first_shortfall};
 ghost use Rattle.pn_tablet.specs.declared.fault.OpFault.TheVariants.{Memory as no_memory};
 ghost use Rattle.pn_tablet.specs.declared.fault.CopyFault.TheVariants.{Memory as no_memory_to_copy};
 ghost use Rattle.pn_tablet.specs.declared.fault.CopyTextFault.TheVariants.{Memory as no_memory_to_read};

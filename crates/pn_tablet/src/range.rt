@@ -1,19 +1,21 @@
-//! Ranges of keys.
+//! Ranges of keys, and which keys are inside.
 
-ghost use Rattle.std.specs.Prelude.{◌≡◌, ◌&&◌, ◌↔◌, IsTrue, IsSome, IfSome, IfOk, OnOk, option_map};
+ghost use Rattle.std.specs.Prelude.{◌≡◌, ◌&&◌, ◌↔◌, IsTrue, IsSome, IfSome, IfOk, OnOk, option_map, not, filter, count_by};
 ghost use Rattle.std.specs.Option.{option_copied, option_eq};
 ghost use Rattle.std.specs.Str.{bytes_eq};
 ghost use Rattle.std.specs.Ordering.{eq_of_both, on};
 ghost use Rattle.std.specs.Cmp.{partial_equiv_from_equiv};
 ghost use Rattle.std.specs.Cmp.Rules.{comparing};
 ghost use Rattle.std.proofs.Common.{rules};
+ghost use Rattle.std.specs.List.{list_all};
 ghost use Rattle.pn_json.specs.Prelude.{Appends, member_tokens, seen_text};
-ghost use Rattle.pn_tablet.specs.Ranges.{is_from, is_before, in_range, are_ends, is_end, key_data, meet};
+ghost use Rattle.pn_tablet.specs.Layouts.{is_from, is_before, in_range, are_ends, is_end, key_data, meet};
+ghost use Rattle.pn_tablet.specs.Tablets.{lie_in as all_lie_in};
 
 use json::Writer;
 use pn_join::{Dup, NoMemory, dup_optional};
 use pn_json::{write_null_member, write_text_member};
-use pn_record::Key;
+use pn_record::{Key, Records};
 use std::alloc::Global;
 use std::marker::Model;
 
@@ -27,7 +29,7 @@ pub struct Range {
 
 impl Model for Range {
     ghost use Rattle.std.specs.Prelude.{IsTrue};
-    ghost use Rattle.pn_tablet.specs.Ranges.{Ends, are_ends};
+    ghost use Rattle.pn_tablet.specs.Layouts.{Ends, are_ends};
 
     ghost Value = { Ends };
 
@@ -51,7 +53,7 @@ impl Range {
     }
 
     /// The range of copies of these ends, which are in order.
-    pub fn from_ends(from: Option<&Key>, to: Option<&Key>) -> Result<Range, NoMemory>
+    pub(crate) fn from_ends(from: Option<&Key>, to: Option<&Key>) -> Result<Range, NoMemory>
         requires { IsTrue (are_ends (option_copied from, option_copied to)) }
         ensures { IfOk result (λ range. range ≡ (option_copied from.entry, option_copied to.entry)) }
     {
@@ -175,5 +177,60 @@ impl Dup for Range {
         ensures { IfOk result (λ copy. copy ≡ self.now) }
     {
         Range::from_ends(self.from(), self.to())
+    }
+}
+
+/// Whether all keys lie in the range, found by a search for its ends among them.
+pub fn lie_in(range: &Range, cells: &Records) -> bool
+    ensures { result ≡ all_lie_in range.now cells.now }
+{
+    begin_at(range.from(), cells) && end_before(range.to(), cells)
+}
+
+fn begin_at(from: Option<&Key>, cells: &Records) -> bool
+    ensures { result ≡ list_all (λ entry. is_from (option_copied from.entry) entry.0) cells.now }
+{
+    match from {
+        Some(from) => cells.lower_bound(from) == 0,
+        None => true,
+    }
+}
+
+fn end_before(to: Option<&Key>, cells: &Records) -> bool
+    ensures { result ≡ list_all (λ entry. is_before (option_copied to.entry) entry.0) cells.now }
+{
+    match to {
+        Some(to) => cells.lower_bound(to) == cells.len(),
+        None => true,
+    }
+}
+
+/// The cells whose keys lie in the range, found by a search for its ends. Whole leaves of cells are shared.
+pub fn cells_within(range: &Range, cells: &Records) -> Result<Records, NoMemory>
+    ensures { IfOk result (λ part. part ≡ filter (λ entry. in_range range.now entry.0) cells.now) }
+{
+    cells.recall_order();
+    let from = count_below(range.from(), cells);
+    let to = count_before(range.to(), cells);
+    cells.slice(from, to)
+}
+
+// How many keys lie below the lower end of a range.
+fn count_below(from: Option<&Key>, cells: &Records) -> usize
+    ensures { result ≡ count_by (λ entry. not (is_from (option_copied from.entry) entry.0)) cells.now }
+{
+    match from {
+        Some(from) => cells.lower_bound(from),
+        None => 0,
+    }
+}
+
+// How many keys lie before the upper end of a range.
+fn count_before(to: Option<&Key>, cells: &Records) -> usize
+    ensures { result ≡ count_by (λ entry. is_before (option_copied to.entry) entry.0) cells.now }
+{
+    match to {
+        Some(to) => cells.lower_bound(to),
+        None => cells.len(),
     }
 }

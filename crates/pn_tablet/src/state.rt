@@ -2,12 +2,8 @@
 
 ghost use Rattle.std.specs.Prelude.{◌≡◌, Ok, Err, IsOk, IsTrue, IfOk, IfErr, OnOk, OnErr, MatchOption};
 ghost use Rattle.pn_join.specs.Prelude.{raised_marks, are_positions};
-ghost use Rattle.pn_tablet.specs.Operations.{HasPositions};
-ghost use Rattle.pn_tablet.specs.Tablets.{empty_tablet};
-ghost use Rattle.pn_tablet.specs.Needs.{need_shortfall as shortfall_of_need};
-ghost use Rattle.pn_tablet.specs.Refusals.{Refuses};
-ghost use Rattle.pn_tablet.specs.Steps.{step, recovering_tablet, is_memory};
-ghost use Rattle.pn_tablet.specs.Changes.{answer, changes};
+ghost use Rattle.pn_tablet.specs.Steps.{HasPositions, Refuses, step, recovering_tablet, is_memory, answer, changes};
+ghost use Rattle.pn_tablet.specs.Tablets.{empty_tablet, need_shortfall as shortfall_of_need};
 ghost use Rattle.pn_tablet.specs.declared.state.TabletOp.TheVariants.{Join, Lose, Adopt};
 
 mod parts;
@@ -16,7 +12,7 @@ use crate::change::{add_changes, reserve_changes};
 use crate::counted_cells::CountedCells;
 use crate::coverage::Coverage;
 use crate::fault::{Shortfall, first_shortfall};
-use crate::inside::lie_in;
+use crate::range::lie_in;
 use crate::{Change, OpFault, Range, TabletCopy};
 use pn_join::{Dup, Marks, NoMemory};
 use pn_record::Records;
@@ -58,7 +54,7 @@ impl Model for TabletState {
 
     ghost Value = { TabletStateValue };
 
-    ghost use Rattle.pn_tablet.specs.Proofs.Coding.{tablet_code};
+    ghost use Rattle.pn_tablet.specs.Proofs.{tablet_code};
 
     ghost coded = { tablet_code };
 
@@ -132,8 +128,8 @@ impl TabletState {
         }
         let mut changes = reserve_changes(self.alloc, cells.len())?;
         let (coverage, spare) = raise_coverage(&self.coverage, marks)?;
-        let told = self.cells.join_and_tell(cells)?;
-        add_changes(&mut changes, told);
+        let table_changes = self.cells.join_with_changes(cells)?;
+        add_changes(&mut changes, table_changes);
         self.coverage = coverage;
         self.spare = Some(spare);
         Ok(changes)
@@ -149,7 +145,7 @@ impl TabletState {
         }
     }
 
-    #[tactic(auto, using(crate::proofs::Stepping::refused_step))]
+    #[tactic(auto, using(crate::proofs::JoinLaws::refused_step))]
     fn adopt(&mut self, copy: &TabletCopy) -> Result<(), OpFault>
         ensures ok { OnOk result (step self.old (Adopt copy.now) ≡ Ok self.new) }
         ensures refused { IfErr result (λ fault. Refuses is_memory fault (step self.old (Adopt copy.now))) }

@@ -3,8 +3,8 @@
 ghost use Rattle.std.specs.Prelude.{◌≡◌, ◌-◌, ◌^◌, map, min};
 ghost use Rattle.std.specs.List.{sum_by};
 ghost use Rattle.pn_record.specs.Prelude.{shown_field};
-ghost use Rattle.pn_tablet.specs.Weights.{content_weight as content_weighs, contents_weight as contents_weigh};
-ghost use Rattle.pn_tablet.specs.Weights.{field_weight as field_weighs, record_weight as weighs};
+ghost use Rattle.pn_tablet.specs.Tablets.{content_weight as content_weighs, contents_weight as contents_weigh, field_weight as field_weighs};
+ghost use Rattle.pn_tablet.specs.Tablets.{record_weight as weighs};
 
 use pn_record::{Body, Cell, Content, Key, Value};
 

@@ -2,8 +2,8 @@
 
 ghost use Rattle.std.specs.Prelude.{◌≤◌, vec_len, IfOk, IfSome};
 ghost use Rattle.pn_live.specs.Prelude.{tablets_in};
-ghost use Rattle.pn_serve.specs.declared.server.limits.TheConstants.{MAX_SESSIONS};
-ghost use Rattle.pn_serve.specs.Server.Sessions.{AllRead};
+ghost use Rattle.pn_serve.specs.declared.server.session_threads.TheConstants.{MAX_SESSIONS};
+ghost use Rattle.pn_serve.specs.Server.Events.{AllRead};
 
 use crate::failures::{fail, fail_at};
 use pn_arguments::Service;
@@ -45,7 +45,7 @@ where
     let source = open_file(rt, path.as_str())?;
     match open_from(rt, settings, service, source) {
         Ok(opened) => {
-            tell_unread(rt, opened.live.marks(), streams);
+            print_unread(rt, opened.live.marks(), streams);
             Ok(Some(opened))
         }
         Err(fault) => Err(refuse_copies(rt, &fault)),
@@ -73,7 +73,7 @@ fn refuse_copies(rt: &impl Eprint, fault: &CopiesFault) -> ExitCode {
 }
 
 // Prints which streams have marks and are not read.
-fn tell_unread(rt: &impl Eprint, marks: &Marks, streams: &[(Name, StreamPath)]) {
+fn print_unread(rt: &impl Eprint, marks: &Marks, streams: &[(Name, StreamPath)]) {
     for at in 0..marks.len() {
         let Some((name, _)) = marks.entry_at(at) else {
             return;
@@ -134,7 +134,7 @@ fn in_bounds(
 fn read_copies<R>(
     rt: &R,
     workers: usize,
-    is_told: bool,
+    is_printed: bool,
     source: BufReader<File>,
 ) -> Result<Vec<TabletCopy>, CopiesFault>
 where
@@ -142,32 +142,32 @@ where
     requires { 1 ≤ workers }
 {
     let mut reader = CopiesReader::new(rt.alloc(), source, workers)?;
-    read_all(rt, is_told, &mut reader)?;
+    read_all(rt, is_printed, &mut reader)?;
     Ok(reader.into_copies())
 }
 
 fn read_all<R>(
     rt: &R,
-    is_told: bool,
+    is_printed: bool,
     reader: &mut CopiesReader<BufReader<File>>,
 ) -> Result<(), CopiesFault>
 where
     R: AllocGlobal + Eprint + Threads + Sync + Clock,
 {
-    let mut told = Instant::now(rt).ok();
+    let mut printed = Instant::now(rt).ok();
     for _ in 0..=MAX_BOUNDS + 1 {
         if !reader.read_some(rt, rt.alloc())? {
             return Ok(());
         }
-        if is_told && has_passed(rt, &told) {
-            tell_count(rt, reader.count());
-            told = Instant::now(rt).ok();
+        if is_printed && has_passed(rt, &printed) {
+            print_count(rt, reader.count());
+            printed = Instant::now(rt).ok();
         }
     }
     Ok(())
 }
 
-fn tell_count(rt: &impl Eprint, count: usize) {
+fn print_count(rt: &impl Eprint, count: usize) {
     let _ = eprintln!(rt; "pnuts: copies: {count} tablets");
 }
 

@@ -1,7 +1,7 @@
 //! Whether the system allows as many descriptors as a server needs.
 
 ghost use Rattle.std.specs.Prelude.{◌≤◌};
-ghost use Rattle.pn_serve.specs.declared.server.limits.TheConstants.{MAX_SESSIONS};
+ghost use Rattle.pn_serve.specs.declared.server.session_threads.TheConstants.{MAX_SESSIONS};
 
 use pn_arguments::Service;
 use pn_join::Name;

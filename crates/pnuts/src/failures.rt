@@ -2,7 +2,7 @@
 
 use pn_arguments::Service;
 use pn_join::Name;
-use pn_serve::{FaultLog, ServeFault, StreamFailure, WriterEnd};
+use pn_serve::{FaultLog, PublisherEnd, ServeFault, StreamFailure};
 use pn_stay::{ListenFault, StreamOpenFault, describe_error, format_failure, format_lock};
 use std::alloc::Global;
 use std::io;
@@ -132,8 +132,8 @@ fn find_failure(rt: &(impl AllocGlobal + Wait), name: &Name, faults: &FaultLog) 
 
 fn describe_failure(alloc: Global, failure: &StreamFailure) -> Option<String> {
     match &failure.end {
-        WriterEnd::End => None,
-        WriterEnd::Fault {
+        PublisherEnd::End => None,
+        PublisherEnd::Fault {
             fault,
             position,
             line,

@@ -4,10 +4,10 @@ use crate::addresses::{Listeners, listen};
 use crate::failures::{fail_serving, is_explained, refuse_streams};
 use pn_arguments::Service;
 use pn_join::Name;
-use pn_serve::{FaultLog, ServeFault, Stream, StreamPath};
+use pn_serve::{FaultLog, ServeFault, Stream, StreamPath, share};
 use pn_stay::{
     Counters, FileSource, MemoryMeter, Messages, SocketAcceptor, SocketFile, StreamCounters,
-    StreamOpenFault, StreamOrigin, StreamSetting, open_files, open_origins, remove_sockets, share,
+    StreamOpenFault, StreamOrigin, StreamSetting, open_files, open_origins, remove_sockets,
 };
 use pn_stream::StreamReader;
 use std::alloc::{AllocError, Global};
@@ -127,9 +127,8 @@ fn new_counters<R>(
 where
     R: AllocGlobal + Files<File = File>,
 {
-    let mut counters = Counters::new(rt.alloc(), streams)?;
-    counters.memory = MemoryMeter::open(rt);
-    counters.unread.limit = service.unread as u64;
+    let memory = MemoryMeter::open(rt);
+    let counters = Counters::new(rt.alloc(), streams, memory, service.unread as u64)?;
     Ok(Arc::new(rt.alloc(), counters)?)
 }
 

@@ -3,8 +3,8 @@
 
 ghost use Rattle.std.specs.Prelude.{◌≤◌, vec_len, IfOk, IfSome};
 ghost use Rattle.pn_live.specs.Prelude.{tablets_in};
-ghost use Rattle.pn_serve.specs.declared.server.limits.TheConstants.{MAX_SESSIONS};
-ghost use Rattle.pn_serve.specs.Server.Sessions.{AllRead};
+ghost use Rattle.pn_serve.specs.declared.server.session_threads.TheConstants.{MAX_SESSIONS};
+ghost use Rattle.pn_serve.specs.Server.Events.{AllRead};
 
 mod addresses;
 mod copies;
@@ -12,22 +12,20 @@ mod descriptors;
 mod failures;
 mod inputs;
 mod scripts;
-mod sessions;
-mod staying;
+mod servers;
 
 use crate::copies::{close_copies, start_from_copies};
 use crate::descriptors::check_descriptors;
 use crate::failures::fail;
 use crate::inputs::{Notes, Streams, open_acceptor, open_streams, refuse_start};
 use crate::scripts::{check_input, replay};
-use crate::sessions::serve_streams;
-use crate::staying::{answer_on, fail_to_stay, start_server};
+use crate::servers::{answer_on, fail_to_stay, serve_streams, start_server};
 use pn_arguments::{Plan, PlanFault, Service, plan};
 use pn_join::Name;
 use pn_serve::{OpenedRegion, Settings, StreamPath};
 use pn_stay::{
     Counters, MessagePrinter, Messages, Shortages, SocketAcceptor, SocketFile, message_prefix,
-    remove_sockets, tell_progress,
+    print_progress, remove_sockets,
 };
 use std::alloc::AllocError;
 use std::env::Env;
@@ -60,13 +58,7 @@ fn main(rt: HostRuntime) -> ExitCode {
         counters,
         sockets,
     } = endpoints;
-    let is_telling = !service.is_progress_told
-        || thread::spawn(&rt, move || tell_progress(&rt, rt.alloc(), &counters)).is_ok();
-    let is_printing = match printer {
-        None => true,
-        Some(printer) => thread::spawn(&rt, move || printer.run(&rt)).is_ok(),
-    };
-    if !is_telling || !is_printing {
+    if !start_telling(&rt, &service, counters) || !start_printing(&rt, printer) {
         return close_copies(&rt, opened, refuse_start(&rt, &service, &sockets));
     }
     let (streams, connections) = match streams {
@@ -85,6 +77,28 @@ fn main(rt: HostRuntime) -> ExitCode {
         }
         Err(error) => fail_to_stay(&rt, &sockets, &error),
     }
+}
+
+// Starts the thread that tells progress, where it is told. Whether the system gave it.
+fn start_telling<R>(rt: &R, service: &Service, counters: Arc<Counters>) -> bool
+where
+    R: AllocGlobal + Eprint + Threads + Wait + Clock + Copy + Send + 'static,
+{
+    if !service.is_progress_told {
+        return true;
+    }
+    let host = *rt;
+    thread::spawn(rt, move || print_progress(&host, host.alloc(), &counters)).is_ok()
+}
+
+// Starts the thread that prints messages about streams, where there are any. Whether the system gave it.
+fn start_printing<R>(rt: &R, printer: Option<MessagePrinter>) -> bool
+where
+    R: Eprint + Threads + Wait + Clock + Copy + Send + 'static,
+{
+    let Some(printer) = printer else { return true };
+    let host = *rt;
+    thread::spawn(rt, move || printer.run(&host)).is_ok()
 }
 
 // What is to be served.

@@ -2,7 +2,7 @@
 
 use crate::failures::fail;
 use pn_check::{CheckFault, check};
-use pn_serve::{RunFault, Settings, run_to_exit};
+use pn_serve::{RunFault, Settings, run_script};
 use std::io;
 use std::io::BufReader;
 use std::process::ExitCode;
@@ -29,7 +29,8 @@ fn answer_input(
     let Ok(mut input) = BufReader::with_capacity(rt.alloc(), READ_SIZE, rt.reader()) else {
         return Err(RunFault::Memory);
     };
-    run_to_exit(rt, rt.alloc(), &mut input, &mut io::writer(rt), settings)?;
+    let finished = run_script(rt, rt.alloc(), &mut input, &mut io::writer(rt), settings);
+    finished.leave_memory()?;
     Ok(())
 }
 

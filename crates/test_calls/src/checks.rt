@@ -1,5 +1,5 @@
-//! Cases of `pn_check`: `LOOK CALL TEXT` shows what is told of a text, and whether all its lines are taken, or why it was not checked to its
-//! end; a look of its source and a call of its sink fail, unless 0.
+//! Cases of `pn_check`: `POLL CALL TEXT` shows what is reported of a text, and whether all its lines are taken, or why it was not checked to its
+//! end; a poll of its source and a call of its sink fail, unless 0.
 //!
 //! A newline of a text is written `|`, and `~3~ab~` is `ababab`.
 
@@ -13,10 +13,10 @@ use test_kit::{bars, spelled_lines};
 /// The answer to a case.
 pub(crate) fn answer(alloc: Global, words: &str) -> Result<String, Fail> {
     let mut words = words;
-    let look = next_count(&mut words)?;
+    let poll = next_count(&mut words)?;
     let call = next_count(&mut words)?;
     let text = spelled_lines(alloc, words)?;
-    checked(alloc, &mut FailingSource::new(text.as_bytes(), look), call)
+    checked(alloc, &mut FailingSource::new(text.as_bytes(), poll), call)
 }
 
 // What is told by a sink that takes few bytes at once.

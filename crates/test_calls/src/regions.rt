@@ -5,22 +5,18 @@
 //! log, and `faults` fault texts.
 
 mod advancing;
-mod counting;
-mod layouts;
-mod logs;
 mod rounds;
-mod work;
 
-use advancing::advance;
-use layouts::keys_after_relayout;
-use logs::last_number;
+use crate::regions::advancing::advance;
+use crate::regions::rounds::{BOUNDS, KEYS, filled, reduce_keys, round};
 use pn_join::{Name, NoMemory, StreamName};
-use pn_region::{AdoptFault, AdvanceFault, RelayoutFault, RoundFault};
+use pn_record::Records;
+use pn_region::{AdoptFault, AdvanceFault, Log, Region, RelayoutFault, RoundFault};
 use std::alloc::Global;
 use std::fmt::Display;
 use std::test::Fail;
 use std::thread::Threads;
-use work::{reduce_keys, round};
+use test_kit::layout;
 
 /// The answer to a case.
 pub(crate) fn answer<R: Threads + Sync>(rt: &R, alloc: Global, line: &str) -> Result<String, Fail> {
@@ -77,4 +73,49 @@ fn too_old(stream: StreamName) -> AdoptFault {
         has: 4,
         needs: 5,
     }
+}
+
+/// The keys of each tablet of these bounds, and why they are not changed back where one was lost.
+pub(crate) fn keys_after_relayout<R: Threads + Sync>(
+    rt: &R,
+    alloc: Global,
+    bounds: &str,
+) -> Option<String> {
+    let mut region = filled(rt, alloc, BOUNDS, KEYS)?;
+    region.relayout(layout(alloc, bounds)?).ok()?;
+    let mut text = keys_of(alloc, &region)?;
+    region.lose(0);
+    push_refusal(alloc, &mut text, &mut region)?;
+    Some(text)
+}
+
+// Adds why the tablets are not changed back.
+fn push_refusal(alloc: Global, text: &mut String, region: &mut Region) -> Option<()> {
+    let fault = region.relayout(layout(alloc, BOUNDS)?).err()?;
+    write!(text, " {fault}").ok()
+}
+
+fn keys_of(alloc: Global, region: &Region) -> Option<String> {
+    let mut text = String::new(alloc);
+    for tablet in 0..region.layout().count() {
+        push_keys(&mut text, region.tablet(tablet).cells())?;
+    }
+    Some(text)
+}
+
+/// Adds the keys of records.
+pub(crate) fn push_keys(text: &mut String, records: &Records) -> Option<()> {
+    for (key, _cell) in records.iter() {
+        text.push_str(key.as_str()).ok()?;
+    }
+    text.push_str(";").ok()
+}
+
+/// The last number of a log after this number of breaks.
+pub(crate) fn last_number(alloc: Global, breaks: &str) -> Option<String> {
+    let mut log = Log::new(alloc).ok()?;
+    for _ in 0..breaks.parse::<usize>().ok()? {
+        log.cut();
+    }
+    format!(in alloc; "{}", log.last_number()).ok()
 }

@@ -3,12 +3,12 @@
 use std::io;
 use std::io::{BufRead, ErrorKind, Read};
 
-/// Shows at most `size` bytes at a time, and fails at look number `fails_at`, of which the first is 1.
+/// Shows at most `size` bytes at a time, and fails at poll number `fails_at`, of which the first is 1.
 #[derive(Drop)]
 pub struct PiecewiseReader<'a> {
     rest: &'a [u8],
     size: usize,
-    looks: usize,
+    polls: usize,
     fails_at: usize,
 }
 
@@ -18,12 +18,12 @@ impl<'a> PiecewiseReader<'a> {
         PiecewiseReader::failing(bytes, size, 0)
     }
 
-    /// A reader that fails at one look.
+    /// A reader that fails at one poll.
     pub fn failing(bytes: &'a [u8], size: usize, fails_at: usize) -> PiecewiseReader<'a> {
         PiecewiseReader {
             rest: bytes,
             size,
-            looks: 0,
+            polls: 0,
             fails_at,
         }
     }
@@ -37,8 +37,8 @@ impl Read for PiecewiseReader<'_> {
 
 impl BufRead for PiecewiseReader<'_> {
     fn fill_buf(&mut self) -> io::Result<&[u8]> {
-        self.looks = self.looks.wrapping_add(1);
-        if self.looks == self.fails_at {
+        self.polls = self.polls.wrapping_add(1);
+        if self.polls == self.fails_at {
             return Err(io::Error::from(ErrorKind::Interrupted));
         }
         Ok(&self.rest[..self.size.min(self.rest.len())])

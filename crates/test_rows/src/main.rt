@@ -2,9 +2,13 @@
 //!
 //! A head begins each: `## NAME WORKERS BOUND ..`, with the number of workers and the bounds of the tablets.
 //!
-//! The head comes out again, and then the replies. `stdout` has what they must be.
+//! The head comes out again, and then the replies. `stdout` has what they must be. Where the name begins with `failing`, the script
+//! is answered over readers and writers that fail, and what comes out is how it ended.
 #![tactic(auto)]
 
+mod failing;
+
+use crate::failing::answer_failing;
 use pn_line::{InMemory, LineBuffer, LineEnd, read_line};
 use pn_record::Key;
 use pn_serve::{Settings, run};
@@ -53,6 +57,9 @@ fn answer(
     let mut output = io::writer(rt);
     output.write_all(head)?;
     output.write_all(b"\n")?;
+    if head.starts_with(b"## failing") {
+        return answer_failing(rt, head, script);
+    }
     let Some(settings) = settings_of(rt.alloc(), head) else {
         return output.write_all(b"the head has no settings\n");
     };
@@ -64,7 +71,7 @@ fn answer(
 }
 
 // The words of a head after its name: the number of workers, and the bounds.
-fn settings_of(alloc: Global, head: &[u8]) -> Option<Settings> {
+pub(crate) fn settings_of(alloc: Global, head: &[u8]) -> Option<Settings> {
     let mut words = str::from_utf8(head).ok()?.split(' ').skip(2);
     let workers = words.next()?.parse::<usize>().ok()?;
     let mut bounds = Vec::new(alloc);

@@ -1,16 +1,16 @@
-//! Streams that are read into a live region, from one writer after another, and the settings of regions that serve.
+//! Streams that are read into a live region, from one publisher after another, and the settings of regions that serve.
 
-ghost use Rattle.std.specs.Prelude.{◌≡◌};
+ghost use Rattle.std.specs.Prelude.{◌≡◌, IfSome};
 ghost use Rattle.pn_live.specs.LiveRegions.{tablets_in};
-ghost use Rattle.pn_serve.specs.Server.Sessions.{AllRead};
+ghost use Rattle.pn_serve.specs.Server.Events.{AllRead};
 
 use pn_join::{Name, StreamName};
 use pn_line::InMemory;
 use pn_live::LiveRegion;
 use pn_region::Region;
 use pn_serve::{
-    AnyWriters, Counter, NextWriter, OpenedRegion, Origin, Settings, Stream, Watchers, WriterEnd,
-    close_region, open_region, read_streams,
+    AnyPublishers, Counter, NextPublisher, OpenedRegion, Origin, PublisherEnd, Settings, Stream,
+    Watchers, close_region, open_region, read_streams,
 };
 use pn_stream::StreamReader;
 use std::alloc::{AllocError, Global};
@@ -28,31 +28,31 @@ pub(crate) fn first_message() -> &'static str {
     FIRST
 }
 
-/// Gives one writer after another, and notes each call.
+/// Gives one publisher after another, and notes each call.
 #[derive(Drop)]
 pub(crate) struct Script<R: Wait + Clock + Copy> {
     rt: R,
     alloc: Global,
     // The last one comes first.
-    writers: Vec<InMemory<'static>>,
+    publishers: Vec<InMemory<'static>>,
     told: Arc<Mutex<String>>,
-    // How many milliseconds it takes to find that there is no next writer.
+    // How many milliseconds it takes to find that there is no next publisher.
     delay: u64,
 }
 
 impl<R: Wait + Clock + Copy> Script<R> {
-    /// A script of these writers, of which the last one comes first.
+    /// A script of these publishers, of which the last one comes first.
     pub(crate) fn new(
         rt: &R,
         alloc: Global,
-        writers: Vec<InMemory<'static>>,
+        publishers: Vec<InMemory<'static>>,
         delay: u64,
     ) -> Result<Script<R>, AllocError> {
         let told = Arc::new(alloc, Mutex::new(String::new(alloc)))?;
         Ok(Script {
             rt: *rt,
             alloc,
-            writers,
+            publishers,
             told,
             delay,
         })
@@ -70,35 +70,35 @@ impl<R: Wait + Clock + Copy> Script<R> {
     }
 }
 
-impl<R: Wait + Clock + Copy> Origin<InMemory<'static>, AnyWriters> for Script<R> {
+impl<R: Wait + Clock + Copy> Origin<InMemory<'static>, AnyPublishers> for Script<R> {
     ghost may_go_on = { Unit {0} };
 
     ghost begins_after = { λ _ _. Unit {0} };
 
-    fn next_writer(
+    fn next_publisher(
         &mut self,
         _name: &StreamName,
         last: u64,
-    ) -> Option<NextWriter<InMemory<'static>>> {
+    ) -> Option<NextPublisher<InMemory<'static>>> {
         self.note(format!(in self.alloc; "from {last}"));
-        if self.writers.is_empty() {
+        if self.publishers.is_empty() {
             thread::sleep(&self.rt, Duration::from_millis(self.delay));
         }
-        let source = self.writers.pop()?;
-        Some(NextWriter {
+        let source = self.publishers.pop()?;
+        Some(NextPublisher {
             source,
             after: last,
         })
     }
 
-    fn hand_on(&mut self, last: u64) {
+    fn note_handed(&mut self, last: u64) {
         self.note(format!(in self.alloc; ", {last}"));
     }
 
-    fn end_writer(&mut self, _source: InMemory<'static>, end: &WriterEnd, last: u64) {
+    fn end_publisher(&mut self, _source: InMemory<'static>, end: &PublisherEnd, last: u64) {
         self.note(match end {
-            WriterEnd::End => format!(in self.alloc; ", end at {last}; "),
-            WriterEnd::Fault {
+            PublisherEnd::End => format!(in self.alloc; ", end at {last}; "),
+            PublisherEnd::Fault {
                 fault,
                 position,
                 line,
@@ -106,10 +106,10 @@ impl<R: Wait + Clock + Copy> Origin<InMemory<'static>, AnyWriters> for Script<R>
         });
     }
 
-    fn stop_writer(&mut self, _source: InMemory<'static>) {}
+    fn stop_publisher(&mut self, _source: InMemory<'static>) {}
 }
 
-/// A stream of one writer.
+/// A stream of one publisher.
 pub(crate) fn stream_of<R: Wait + Clock + Copy>(
     rt: &R,
     alloc: Global,
@@ -118,8 +118,8 @@ pub(crate) fn stream_of<R: Wait + Clock + Copy>(
     delay: u64,
 ) -> Option<Stream<Script<R>>> {
     let name = Name::read(name).ok()?;
-    let writers = one_writer(alloc, text)?;
-    let origin = Script::new(rt, alloc, writers, delay).ok()?;
+    let publishers = one_publisher(alloc, text)?;
+    let origin = Script::new(rt, alloc, publishers, delay).ok()?;
     Some(Stream {
         name,
         origin,
@@ -127,11 +127,11 @@ pub(crate) fn stream_of<R: Wait + Clock + Copy>(
     })
 }
 
-fn one_writer(alloc: Global, text: String) -> Option<Vec<InMemory<'static>>> {
+fn one_publisher(alloc: Global, text: String) -> Option<Vec<InMemory<'static>>> {
     let text: &'static [u8] = text.into_bytes().leak();
-    let mut writers = Vec::with_capacity(alloc, 1).ok()?;
-    writers.push(InMemory::new(text)).ok()?;
-    Some(writers)
+    let mut publishers = Vec::with_capacity(alloc, 1).ok()?;
+    publishers.push(InMemory::new(text)).ok()?;
+    Some(publishers)
 }
 
 /// The reader of one stream of these messages.
@@ -150,6 +150,14 @@ pub(crate) fn readers_of(
 pub(crate) fn settings(alloc: Global) -> Option<Settings> {
     let layout = layout(alloc, "")?;
     Settings::new(layout, 1)
+}
+
+/// Opens a new region of one tablet, with one reader.
+pub(crate) fn open_new<R: Wait>(rt: &R, alloc: Global) -> Option<OpenedRegion>
+    ensures { IfSome result (λ opened. AllRead (tablets_in opened.live) opened.readers.items) }
+{
+    let layout = layout(alloc, "")?;
+    open_region(rt, alloc, layout, 1).ok()
 }
 
 /// Adds a message at a position: an image of a key, of the version of a number.
@@ -197,9 +205,7 @@ pub(crate) fn read_into_region<R>(
 where
     R: Threads + Wait + Clock + Sync + Copy + Send + Drop + 'static,
 {
-    let layout = layout(alloc, "")?;
-    let (live, readers) = open_region(rt, alloc, layout, 1).ok()?;
-    let opened = OpenedRegion { live, readers };
+    let opened = open_new(rt, alloc)?;
     read_into_opened(rt, alloc, opened, streams, rounds)
 }
 

@@ -2,23 +2,24 @@
 //!
 //! `plan` and `says` read words; `blocks` counts the writes of replies; `session` and `serve` answer sessions, `kinds` counts lines of
 //! one, and `control` answers a control session; `start` opens a region from copies, and `endless` names the fault of a text of copies
-//! without end; `read` reads streams, and `writers` one whose writers come one after another. A bar is a newline.
+//! without end; `read` reads streams, and `publishers` one whose publishers come one after another. A bar is a newline.
 
 mod control;
 mod copies;
 mod kinds;
 pub(crate) mod loopback;
 mod plans;
+mod publishers;
 mod rounds;
 mod scripts;
 mod sessions;
-mod writers;
 
 use control::answer_control;
 use copies::{start, start_endless};
 use kinds::count_kinds;
 use loopback::serve_stream;
 use plans::{plan_reply, says};
+use publishers::read_publishers;
 use rounds::few_rounds;
 use scripts::blocks;
 use sessions::answer_session;
@@ -28,7 +29,6 @@ use std::sync::Wait;
 use std::test::Fail;
 use std::thread::Threads;
 use std::time::Clock;
-use writers::read_writers;
 
 /// The answer to a case.
 pub(crate) fn answer_serve<R>(rt: &R, alloc: Global, line: &str) -> Result<String, Fail>
@@ -55,6 +55,6 @@ where
         "start" => start(rt, alloc, rest),
         "endless" => start_endless(rt, alloc, rest),
         "read" => few_rounds(rt, alloc),
-        _ => read_writers(rt, alloc, rest),
+        _ => read_publishers(rt, alloc, rest),
     }
 }

@@ -3,18 +3,18 @@
 //! A bar is a newline, a plus ends a piece, and an empty piece or a 0 is a wait.
 
 mod clients;
-mod echo;
 mod opening;
+mod publisher_reading;
+mod publishers;
 mod served;
 mod stopped;
 mod talks;
-mod writer_reading;
-mod writers;
 
 use clients::{count_input, keep_input, read_input, take_turns};
-use echo::Echo;
+use opening::Echo;
 use pn_lines::{LinesEnd, Others, TurnOutcome};
 use pn_stay::every_way_of_coming_and_going;
+use publishers::{leave_many, read_opened};
 use served::{answer_flood, listen_twice, serve_session, stay_until_idle};
 use std::alloc::Global;
 use std::fs::{File, Files};
@@ -25,7 +25,6 @@ use std::thread::Threads;
 use std::time::Clock;
 use stopped::stop_server;
 use test_kit::{bars, newlines, spell_out};
-use writers::{leave_many, read_opened};
 
 /// How many turns a connection has at most.
 pub(crate) const TURNS: u32 = 100_000;
@@ -59,7 +58,7 @@ where
         "stays" => stay_until_idle(rt, alloc, rest),
         "flood" => answer_flood(rt, alloc),
         "stops" => stop_server(rt, alloc),
-        "writers" => read_opened(rt, alloc, rest),
+        "publishers" => read_opened(rt, alloc, rest),
         "messages" => leave_many(rt, alloc),
         _ => come_and_go(alloc, word, rest),
     }

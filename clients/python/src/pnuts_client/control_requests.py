@@ -83,11 +83,11 @@ class TabletStats:
 
 @dataclass(frozen=True, slots=True)
 class StreamStats:
-    """A stream: its path, and its state, which is `waiting` for a writer, `open`, `ended` or `failed`.
+    """A stream: its path, and its state, which is `waiting` for a publisher, `open`, `ended` or `failed`.
 
     `position` is up to which it was taken; `messages` and `bytes` were read. `since` is the seconds since the last
     message, None before the first. `reason` and `line` are of the last fault, None where there was none: why, and in
-    which line of what the writer sent. `stream` is whose stream a writer said it is, and `newest` the broker's newest
+    which line of what the publisher sent. `stream` is whose stream a publisher said it is, and `newest` the broker's newest
     position that one told, `heard` seconds ago; None where none did.
     """
 

@@ -8,10 +8,9 @@ from hashlib import sha256
 from pathlib import Path
 
 from .control_requests import LineCounts, Lines, Stats, StreamStats, Tablet
-from .elements import Html, element, joined
+from .elements import Html, element, joined, sparkline
 from .figures import Lag
 from .history import KEPT, PER_KIND, PER_STREAM, STEP, Point, Seen, View
-from .sparkline import sparkline
 from .status import faults_of, lags_of, shown_bytes, shown_marks, shown_seconds
 
 STYLE, SCRIPT = (Path(__file__).with_name(f"page.{kind}").read_text(encoding="utf-8") for kind in ("css", "js"))

@@ -74,7 +74,7 @@ class Outbox:
     """Versions and images that wait for a broker, in two tables of the database that has the records: PostgreSQL, or SQLite from 3.35 on.
 
     `tell` writes into both in the transaction that changes a record, and `publish` gives to the broker what was committed. An image may
-    reach the broker again, and in another order, where a publisher ends or several run: regions take the greatest version.
+    reach the broker again, and in another order, where a producer ends or several run: regions take the greatest version.
     """
 
     def __init__(self, name: str = "pnuts", mark: str = "%s") -> None:

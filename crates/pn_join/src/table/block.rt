@@ -1,13 +1,10 @@
 //! Blocks: rows of leaves, where a search looks into one leaf.
 
-ghost use Rattle.std.specs.Prelude.{◌≡◌, ◌+◌, ◌^◌, ◌<◌, ◌≤◌, leb, [], ◌∷◌, ◌++◌, length, vec_len, vec_capacity, take, get_or, option_map, slice_get, IfOk, OnOk, OnErr};
+ghost use Rattle.std.specs.Prelude.{◌≡◌, ◌+◌, ◌^◌, ◌<◌, ◌≤◌, leb, [], ◌∷◌, ◌++◌, length, vec_len, vec_capacity, take, get_or, option_map, slice_get, IfOk};
+ghost use Rattle.std.specs.Prelude.{OnOk, OnErr};
 ghost use Rattle.std.specs.List.{prefix_len};
-ghost use Rattle.pn_join.specs.LeafEntries.{leaf_entries, leaves_of};
-ghost use Rattle.pn_join.specs.Leaves.{all_entries, counts_after, IsLeaf, IsLeafList};
-ghost use Rattle.pn_join.specs.Indices.{index_of};
-ghost use Rattle.pn_join.specs.PutInLeaves.{IsPutOf, ChangesOneLeaf};
-ghost use Rattle.pn_join.specs.LeafListChanges.{with_back};
-ghost use Rattle.pn_join.specs.Tables.{IsTable};
+ghost use Rattle.pn_join.specs.Leaves.{leaf_entries, leaves_of, all_entries, counts_after, IsLeaf, IsLeafList, IsPutOf, ChangesOneLeaf, with_back};
+ghost use Rattle.pn_join.specs.Tables.{index_of, IsTable};
 
 mod building;
 mod bulk_join;
@@ -49,7 +46,7 @@ impl<K: Ord + Dup, C: Join> Model for Block<K, C> {
     ghost Value = { List (List (K × C)) };
 
     ghost use Rattle.pn_join.specs.Leaves.{IsLeafList, AreEntryCounts};
-    ghost use Rattle.pn_join.specs.LeafEntries.{leaves_of};
+    ghost use Rattle.pn_join.specs.Leaves.{leaves_of};
 
     ghost view = { λ block. leaves_of block.leaves.items };
 

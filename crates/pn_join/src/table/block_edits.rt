@@ -2,7 +2,7 @@
 
 ghost use Rattle.std.specs.Prelude.{◌≡◌, ◌+◌, ◌++◌, ◌∷◌, [], length, IfOk, IfSome, OnOk};
 ghost use Rattle.std.specs.Option.{option_to_list};
-ghost use Rattle.pn_join.specs.BlockEdits.{changes_in_blocks, placed, placed_at, puts_in_blocks};
+ghost use Rattle.pn_join.specs.Edits.{changes_in_blocks, placed, placed_at, puts_in_blocks};
 
 use crate::table::change::TableChange;
 use crate::table::edit::{Edit, take_changes};

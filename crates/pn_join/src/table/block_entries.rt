@@ -3,8 +3,7 @@
 ghost use Rattle.std.specs.Prelude.{◌≡◌, ◌++◌, length};
 ghost use Rattle.std.specs.Iterator.{at_most};
 ghost use Rattle.std.specs.Map.Iter.{TakesFirst, deref_pair};
-ghost use Rattle.pn_join.specs.LeafEntries.{leaves_of};
-ghost use Rattle.pn_join.specs.Leaves.{all_entries};
+ghost use Rattle.pn_join.specs.Leaves.{leaves_of, all_entries};
 
 use crate::table::leaf::Leaf;
 use std::iter::FusedIterator;
@@ -24,7 +23,7 @@ impl<'t, K, C> Model for BlockEntries<'t, K, C> {
 
     ghost Value = { List (K × C) };
 
-    ghost use Rattle.pn_join.specs.LeafEntries.{leaves_of};
+    ghost use Rattle.pn_join.specs.Leaves.{leaves_of};
     ghost use Rattle.pn_join.specs.Leaves.{all_entries};
 
     ghost view = { λ entries. iter_rest entries.left ++ all_entries (leaves_of (iter_rest entries.leaves)) };

@@ -11,7 +11,7 @@
 ghost use Rattle.std.specs.Prelude.{◌≡◌, ◌+◌, ◌^◌, ◌<◌, ◌≤◌, leb, [], length, take, drop, option_map, slice_get, IfOk};
 ghost use Rattle.std.specs.List.{prefix_len};
 ghost use Rattle.pn_join.specs.Blocks.{in_blocks, entries_in, AreBlocks};
-ghost use Rattle.pn_join.specs.Indices.{index_of};
+ghost use Rattle.pn_join.specs.Tables.{index_of};
 ghost use Rattle.pn_join.specs.Leaves.{all_entries, counts_after};
 
 mod building;

@@ -1,8 +1,7 @@
 //! Blocks that copies of a table share.
 
 ghost use Rattle.std.specs.Prelude.{◌≡◌, ◌<◌, [], ◌++◌, length, IfOk, OnOk, OnErr};
-ghost use Rattle.pn_join.specs.Leaves.{all_entries, IsLeafList};
-ghost use Rattle.pn_join.specs.PutInLeaves.{IsPutOf, ChangesOneLeaf};
+ghost use Rattle.pn_join.specs.Leaves.{all_entries, IsLeafList, IsPutOf, ChangesOneLeaf};
 
 use crate::table::block::Block;
 use crate::{Dup, Join, NoMemory};
@@ -32,7 +31,7 @@ impl<K: Ord + Dup, C: Join> Model for BlockRef<K, C> {
 
     ghost Value = { List (List (K × C)) };
 
-    ghost use Rattle.pn_join.specs.BlockLeaves.{held_leaves};
+    ghost use Rattle.pn_join.specs.Blocks.{held_leaves};
 
     ghost view = { λ block. held_leaves block.held };
 }

@@ -5,8 +5,7 @@ ghost use Rattle.std.specs.Prelude.{◌≡◌, ◌+◌, ◌^◌, ◌<◌, ◌≤
 ghost use Rattle.std.specs.List.{AllByRecursion};
 ghost use Rattle.std.specs.FinMap.{put, is_sorted};
 ghost use Rattle.pn_join.specs.Edits.{put_of, puts_in, put_all, changes_in, AreFew, FitLeaves, GoUp, IsReady, IsReadyAt};
-ghost use Rattle.pn_join.specs.LeafEntries.{leaf_entries, leaves_of};
-ghost use Rattle.pn_join.specs.Leaves.{all_entries, AreEntryCounts};
+ghost use Rattle.pn_join.specs.Leaves.{leaf_entries, leaves_of, all_entries, AreEntryCounts};
 
 use crate::table::change::TableChange;
 use crate::table::entry_counts::{raise_between, raise_from};

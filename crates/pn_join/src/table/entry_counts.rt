@@ -1,7 +1,7 @@
 //! Cumulative entry counts: for each leaf, how many entries there are up to its end.
 
 ghost use Rattle.std.specs.Prelude.{◌≡◌, ◌+◌, ◌<◌, ◌≤◌, vec_len, vec_capacity, IfOk};
-ghost use Rattle.pn_join.specs.LeafListChanges.{raised_from, FitFrom, counts_with};
+ghost use Rattle.pn_join.specs.Leaves.{raised_from, FitFrom, counts_with};
 
 use crate::NoMemory;
 use std::alloc::Global;

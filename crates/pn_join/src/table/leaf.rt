@@ -2,8 +2,7 @@
 
 ghost use Rattle.std.specs.Prelude.{◌≡◌, ◌≤◌, length, IfOk, OnOk, OnErr};
 ghost use Rattle.pn_join.specs.Edits.{IsReady};
-ghost use Rattle.pn_join.specs.LeafEntries.{leaf_entries, leaves_of};
-ghost use Rattle.pn_join.specs.Leaves.{begins_below, ends_below};
+ghost use Rattle.pn_join.specs.Leaves.{leaf_entries, leaves_of, begins_below, ends_below};
 
 use crate::table::leaf_join::MAX_LEAF_ENTRIES;
 use crate::{Dup, NoMemory};

@@ -2,11 +2,8 @@
 
 ghost use Rattle.std.specs.Prelude.{◌≡◌, ◌+◌, ◌-◌, ◌<◌, ◌≤◌, [], ◌++◌, length, reverse, take, drop, vec_len, vec_capacity, IsTrue, IfOk, OnOk, OnErr};
 ghost use Rattle.std.specs.FinMap.{is_sorted};
-ghost use Rattle.pn_join.specs.LeafEntries.{leaf_entries};
-ghost use Rattle.pn_join.specs.Leaves.{IsLeaf};
-ghost use Rattle.pn_join.specs.Indices.{index_of};
-ghost use Rattle.pn_join.specs.PutInLeaves.{IsPutOf};
-ghost use Rattle.pn_join.specs.Tables.{IsTable};
+ghost use Rattle.pn_join.specs.Leaves.{leaf_entries, IsLeaf, IsPutOf};
+ghost use Rattle.pn_join.specs.Tables.{index_of, IsTable};
 
 use crate::table::leaf::Leaf;
 use crate::{Dup, Join, NoMemory};

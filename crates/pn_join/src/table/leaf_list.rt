@@ -3,11 +3,8 @@
 ghost use Rattle.std.specs.Prelude.{◌≡◌, ◌≤◌, false, [], ◌++◌, length, drop, option_map, slice_get, slice_range, IsTrue, IfOk, IfSome, OnOk, OnErr};
 ghost use Rattle.std.specs.FinMap.{find};
 ghost use Rattle.std.specs.Option.{option_copied};
-ghost use Rattle.pn_join.specs.Indices.{index_of};
-ghost use Rattle.pn_join.specs.Leaves.{all_entries, IsLeafList};
-ghost use Rattle.pn_join.specs.PutInLeaves.{IsPutOf, ChangesOneLeaf};
-ghost use Rattle.pn_join.specs.TableChanges.{AreChanges};
-ghost use Rattle.pn_join.specs.Tables.{contents_at, key_by_key, IsTable};
+ghost use Rattle.pn_join.specs.Tables.{index_of, AreChanges, contents_at, key_by_key, IsTable};
+ghost use Rattle.pn_join.specs.Leaves.{all_entries, IsLeafList, IsPutOf, ChangesOneLeaf};
 
 use crate::table::block_list::{BlockList, BulkJoin};
 use crate::table::entries::Entries;
@@ -177,14 +174,14 @@ impl<K: Ord + Dup, C: Join> LeafList<K, C> {
     }
 
     /// Does the same, and returns what the other's entries change.
-    pub(crate) fn join_and_tell(&mut self, other: &Self) -> Result<BulkJoin<K, C>, NoMemory>
-        ensures changes { IfOk result (λ told. AreChanges K.cmp C.meaning C.joined C.valid (all_entries self.old) (all_entries other.now) told.changes.items) }
-        ensures done { IfOk result (λ told. IsTrue told.is_done → contents_at K.cmp C.meaning (all_entries self.new)
+    pub(crate) fn join_with_changes(&mut self, other: &Self) -> Result<BulkJoin<K, C>, NoMemory>
+        ensures changes { IfOk result (λ bulk. AreChanges K.cmp C.meaning C.joined C.valid (all_entries self.old) (all_entries other.now) bulk.changes.items) }
+        ensures done { IfOk result (λ bulk. IsTrue bulk.is_done → contents_at K.cmp C.meaning (all_entries self.new)
             ≡ key_by_key C.joined (contents_at K.cmp C.meaning (all_entries self.old)) (contents_at K.cmp C.meaning (all_entries other.now))) }
-        ensures undone { IfOk result (λ told. told.is_done ≡ false → all_entries self.new ≡ all_entries self.old) }
+        ensures undone { IfOk result (λ bulk. bulk.is_done ≡ false → all_entries self.new ≡ all_entries self.old) }
         ensures err { OnErr result (all_entries self.new ≡ all_entries self.old) }
         ensures leaf_list { IsLeafList K.cmp C.valid self.new }
     {
-        self.blocks.join_and_tell(&other.blocks)
+        self.blocks.join_with_changes(&other.blocks)
     }
 }

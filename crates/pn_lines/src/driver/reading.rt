@@ -1,24 +1,23 @@
 //! How a driver reads lines, and ends.
 
-ghost use Rattle.std.specs.Prelude.{◌≡◌, ◌≢◌, ◌+◌, ◌≤◌, ◌<◌, ◌⊎◌, [], ℕ, Bool, List, false, true};
-ghost use Rattle.std.specs.Prelude.{Err, None, Option, IfErr, IfOk, OnErr, OnOk, OnSome, vec_capacity};
+ghost use Rattle.std.specs.Prelude.{◌≡◌, ◌≢◌, ◌+◌, ◌≤◌, ◌<◌, ◌⊎◌, [], ℕ, Bool, List, false, true, Err, None, Option, IfErr, IfOk, OnErr, OnOk, OnSome};
+ghost use Rattle.std.specs.Prelude.{vec_capacity};
 ghost use Rattle.std.specs.Io.KnownBytes.{Appends, IsAtEnd};
-ghost use Rattle.pn_line.specs.LineEnd.{HasNext, newline_taken};
+ghost use Rattle.pn_line.specs.Line.{HasNext, newline_taken, Takes};
 ghost use Rattle.pn_line.specs.Prelude.{AppendsPrefix, HasShown, so_far};
-ghost use Rattle.pn_line.specs.Reads.{Takes};
 ghost use Rattle.pn_line.specs.declared.line_buffer.TheConstants.{ENDLESS};
-ghost use Rattle.pn_lines.specs.Driving.{CanGo, EndsHanded, Goes, GoesOn, Reads, Stops, looks_after, looks_unless};
-ghost use Rattle.pn_lines.specs.Ends.{CanEnd, HandsOn, HasEnded, Start, looks_left};
+ghost use Rattle.pn_lines.specs.Driving.{CanGo, EndsFlushed, Goes, GoesOn, Reads, Stops, polls_after, polls_unless, CanEnd, Flushes, HasEnded, Start};
+ghost use Rattle.pn_lines.specs.Driving.{polls_left};
 ghost use Rattle.pn_lines.specs.Engines.{stage_after};
 ghost use Rattle.pn_lines.specs.Standing.{IsOver, count_by, newline_of};
-ghost use Rattle.pn_lines.specs.declared.engine.stage.Stage.TheVariants.{Reading};
-ghost use Rattle.pn_lines.specs.declared.piece_text.TheConstants.{MAX_PIECE_BYTES};
+ghost use Rattle.pn_lines.specs.declared.engine.state.Stage.TheVariants.{Reading};
+ghost use Rattle.pn_lines.specs.declared.finding.TheConstants.{MAX_PIECE_BYTES};
 
 use crate::driver::LinesFault;
-use crate::driver::settling::{settle, write_out};
+use crate::driver::buffers::{settle, write_out};
 use crate::engine::{Counts, LineEngine};
+use crate::finding::PieceText;
 use crate::handler::{EndedBy, LineHandler};
-use crate::piece_text::PieceText;
 use pn_line::{LineBuffer, LineEnd, Sink, Source, read_line};
 
 /// Reads a line, unless as many were answered as may be.
@@ -34,7 +33,7 @@ pub(super) fn next_line<G: Drop, T: PieceText, S: Source>(
     ensures more { IfOk result (λ end. OnSome (S.left input.old) (HasNext end (S.left input.new))) }
     ensures fault { IfErr result (λ fault. (fault ≡ LinesFault.Read) × S.may_fail) }
     ensures kept { OnErr result (Takes (so_far []) line.new (S.left input.old) (S.left input.new) []) }
-    ensures looks { S.looks input.new + looks_unless result engine.now ≤ S.looks input.old + looks_left engine.now.counts.lines engine.now.most }
+    ensures polls { S.polls input.new + polls_unless result engine.now ≤ S.polls input.old + polls_left engine.now.counts.lines engine.now.most }
 {
     line.start();
     if engine.is_full() {
@@ -63,21 +62,21 @@ fn recall_ends(line: &LineBuffer)
 /// Writes what waits, and hands it on.
 pub(super) fn hand_out<W: Sink>(replies: &mut Vec<u8>, output: &mut W) -> Result<(), LinesFault>
     ensures ok { OnOk result (Appends (W.contents output.old) (W.contents output.new) replies.old.items) }
-    ensures out { OnOk result (W.is_handed_on output.new) }
+    ensures out { OnOk result (W.is_flushed output.new) }
     ensures none { replies.new.items ≡ [] }
     ensures capacity { vec_capacity replies.new ≡ vec_capacity replies.old }
     ensures err { OnErr result (AppendsPrefix (W.contents output.old) (W.contents output.new) replies.old.items) }
     ensures fault { IfErr result (λ fault. (fault ≡ LinesFault.Write) × W.may_fail) }
 {
     write_out(replies, output)?;
-    match output.hand_on() {
+    match output.flush() {
         Ok(()) => Ok(()),
         Err(_) => Err(LinesFault::Write),
     }
 }
 
 /// Answers a line that was read, and finishes its answer.
-pub(super) fn answer_line<G: Drop, T: PieceText, M: LineHandler<Going = G, Text = T>, W: Sink>(
+pub(super) fn answer_line<G: Drop, T: PieceText, M: LineHandler<Pending = G, Text = T>, W: Sink>(
     machine: &mut M,
     engine: &mut LineEngine<G, T>,
     line: &LineBuffer,
@@ -111,7 +110,13 @@ pub(super) fn answer_line<G: Drop, T: PieceText, M: LineHandler<Going = G, Text 
 }
 
 /// Ends between two lines, once what waits is written. How it ended.
-pub(super) fn close<G: Drop, T: PieceText, M: LineHandler<Going = G, Text = T>, S: Source, W: Sink>(
+pub(super) fn close<
+    G: Drop,
+    T: PieceText,
+    M: LineHandler<Pending = G, Text = T>,
+    S: Source,
+    W: Sink,
+>(
     _machine: &M,
     _engine: &LineEngine<G, T>,
     replies: &mut Vec<u8>,
@@ -124,7 +129,7 @@ pub(super) fn close<G: Drop, T: PieceText, M: LineHandler<Going = G, Text = T>, 
     ensures ends { (start : Start M) → Reads M.handling start (S.left _input.now) (W.contents output.old) replies.old.items false _machine.now _engine.now
         → HasEnded M.handling _engine.now.most start (S.left _input.now) (W.contents output.new) _machine.now (Err result) }
     ensures can { CanEnd ⊥ W.may_fail ⊥ (M.handling.closed _machine.now) (Err result) }
-    ensures out { HandsOn (Err result) (W.is_handed_on output.new) }
+    ensures out { Flushes (Err result) (W.is_flushed output.new) }
     ensures capacity { vec_capacity replies.new ≡ vec_capacity replies.old }
 {
     match hand_out(replies, output) {
@@ -149,7 +154,7 @@ fn limit_of<G: Drop, T: PieceText>(engine: &LineEngine<G, T>) -> LinesFault
 pub(super) fn answer_next<
     G: Drop,
     T: PieceText,
-    M: LineHandler<Going = G, Text = T>,
+    M: LineHandler<Pending = G, Text = T>,
     S: Source,
     W: Sink,
 >(
@@ -169,10 +174,10 @@ pub(super) fn answer_next<
         → Goes M.handling engine.old.most start (S.left input.new) (W.contents output.new) replies.new.items machine.new engine.new result }
     ensures more { IfOk result (λ ended. ended ≡ None → GoesOn engine.old engine.new) }
     ensures can { CanGo S.may_fail W.may_fail S.may_end engine.old.most result }
-    ensures out { EndsHanded result (W.is_handed_on output.new) }
+    ensures out { EndsFlushed result (W.is_flushed output.new) }
     ensures waits { IfOk result (λ ended. ended ≡ None → OnSome (S.left input.old) (HasShown true (S.left input.new))
-        ⊎ ((replies.new.items ≡ []) × W.is_handed_on output.new)) }
-    ensures looks { S.looks input.new + looks_after engine.new result ≤ S.looks input.old + looks_left engine.old.counts.lines engine.old.most }
+        ⊎ ((replies.new.items ≡ []) × W.is_flushed output.new)) }
+    ensures polls { S.polls input.new + polls_after engine.new result ≤ S.polls input.old + polls_left engine.old.counts.lines engine.old.most }
     ensures grows { vec_capacity replies.old ≤ vec_capacity replies.new }
     ensures kept { M.keeps machine.old machine.new }
 {

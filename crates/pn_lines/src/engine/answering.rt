@@ -3,24 +3,22 @@
 ghost use Rattle.std.specs.Prelude.{◌≤◌, ◌<◌, ◌+◌, ◌⊎◌, ◌≡◌, [], ℕ, Bool, IsFalse, IsTrue, List, true};
 ghost use Rattle.pn_line.specs.Prelude.{kept_bytes, so_far};
 ghost use Rattle.pn_lines.specs.Driving.{IsAfter, SameLines};
-ghost use Rattle.pn_lines.specs.Engines.{is_going as goes_on, with_lines};
-ghost use Rattle.pn_lines.specs.Progress.{Advances, going_left};
-ghost use Rattle.pn_lines.specs.Standing.{StandsStill, count_by, count_of};
-ghost use Rattle.pn_lines.specs.Taking.{Asks, Refuses};
+ghost use Rattle.pn_lines.specs.Engines.{is_pending as goes_on, with_lines, Advances, pending_left};
+ghost use Rattle.pn_lines.specs.Standing.{StandsStill, count_by, count_of, Asks, Refuses};
 ghost use Rattle.pn_lines.specs.declared.engine.TheConstants.{MAX_STEP_UNITS};
-ghost use Rattle.pn_lines.specs.declared.engine.stage.Stage.TheVariants.{Going};
+ghost use Rattle.pn_lines.specs.declared.engine.state.Stage.TheVariants.{Pending};
 ghost use Rattle.pn_lines.specs.declared.handler.EndedBy.{EndedBy};
 ghost use Rattle.pn_lines.specs.declared.handler.TheConstants.{MAX_ANSWER_UNITS};
 
 use crate::engine::LineEngine;
-use crate::engine::stage::Stage;
-use crate::handler::{Answer, Answered, EndedBy, LineHandler, RefusesLong};
-use crate::piece_text::PieceText;
+use crate::engine::state::Stage;
+use crate::finding::PieceText;
+use crate::handler::{Answered, EndedBy, LineHandler, LineOutcome, RefusesLong};
 use pn_line::LineBuffer;
 
 impl<G: Drop, T: PieceText> LineEngine<G, T> {
     /// Takes a line that was read to its end, and has it answered or begun.
-    pub(crate) fn take_line<M: LineHandler<Going = G, Text = T>>(
+    pub(crate) fn take_line<M: LineHandler<Pending = G, Text = T>>(
         &mut self,
         machine: &mut M,
         line: &LineBuffer,
@@ -40,7 +38,7 @@ impl<G: Drop, T: PieceText> LineEngine<G, T> {
     }
 
     /// Has a line answered, or begun. How many units that took.
-    pub(super) fn ask<M: LineHandler<Going = G, Text = T>>(
+    pub(super) fn ask<M: LineHandler<Pending = G, Text = T>>(
         &mut self,
         machine: &mut M,
         line: &[u8],
@@ -59,7 +57,7 @@ impl<G: Drop, T: PieceText> LineEngine<G, T> {
     }
 
     /// Has a line answered that is too long.
-    pub(super) fn refuse_long<M: RefusesLong<Going = G, Text = T>>(
+    pub(super) fn refuse_long<M: RefusesLong<Pending = G, Text = T>>(
         &mut self,
         machine: &mut M,
         ended: EndedBy,
@@ -71,11 +69,11 @@ impl<G: Drop, T: PieceText> LineEngine<G, T> {
         ensures kept { M.keeps machine.old machine.new }
     {
         let reply = machine.refuse_long(ended);
-        self.take_answer(Answer::Done(reply), ended);
+        self.take_answer(LineOutcome::Done(reply), ended);
     }
 
     /// Goes on with an answer that was begun. False where none was.
-    pub(crate) fn resume<M: LineHandler<Going = G, Text = T>>(
+    pub(crate) fn resume<M: LineHandler<Pending = G, Text = T>>(
         &mut self,
         machine: &mut M,
         units: u32,
@@ -84,15 +82,15 @@ impl<G: Drop, T: PieceText> LineEngine<G, T> {
         requires some { 0 < units }
         requires made { self.old.left ≡ [] }
         ensures stands { StandsStill M.handling machine.old self.old machine.new self.new }
-        ensures nearer { IsTrue result → going_left M.left self.new.stage < going_left M.left self.old.stage }
-        ensures none { IsFalse result → (self.new ≡ self.old) × (going_left M.left self.old.stage ≡ 0) }
+        ensures nearer { IsTrue result → pending_left M.left self.new.stage < pending_left M.left self.old.stage }
+        ensures none { IsFalse result → (self.new ≡ self.old) × (pending_left M.left self.old.stage ≡ 0) }
         ensures after { (ended : EndedBy) → IsAfter ended self.old.stage → IsAfter ended self.new.stage }
         ensures same { SameLines self.old self.new }
         ensures kept { M.keeps machine.old machine.new }
     {
         match self.take_stage() {
-            Stage::Going(going, ended) => {
-                self.look_on(machine, going, ended, units);
+            Stage::Pending(pending, ended) => {
+                self.look_on(machine, pending, ended, units);
                 true
             }
             stage => {
@@ -103,7 +101,7 @@ impl<G: Drop, T: PieceText> LineEngine<G, T> {
     }
 
     /// Goes on with an answer that was begun, if one was.
-    pub(crate) fn go_further<M: LineHandler<Going = G, Text = T>>(
+    pub(crate) fn go_further<M: LineHandler<Pending = G, Text = T>>(
         &mut self,
         machine: &mut M,
         units: u32,
@@ -112,7 +110,7 @@ impl<G: Drop, T: PieceText> LineEngine<G, T> {
         requires some { 0 < units }
         ensures stands { StandsStill M.handling machine.old self.old machine.new self.new }
         ensures nearer { self.old.left ≡ [] → goes_on self.old.stage ≡ true
-            → going_left M.left self.new.stage < going_left M.left self.old.stage }
+            → pending_left M.left self.new.stage < pending_left M.left self.old.stage }
         ensures lines { self.new.counts.lines ≡ self.old.counts.lines }
         ensures kept { M.keeps machine.old machine.new }
     {
@@ -123,19 +121,19 @@ impl<G: Drop, T: PieceText> LineEngine<G, T> {
     }
 
     /// Goes on with an answer. How many units that took: at least one.
-    pub(super) fn look_on<M: LineHandler<Going = G, Text = T>>(
+    pub(super) fn look_on<M: LineHandler<Pending = G, Text = T>>(
         &mut self,
         machine: &mut M,
-        going: G,
+        pending: G,
         ended: EndedBy,
         units: u32,
     ) -> u32
         requires ready { M.ready }
         requires some { 0 < units }
         requires made { self.old.left ≡ [] }
-        ensures stands { StandsStill M.handling machine.old (record self.old { stage = Going going ended }) machine.new self.new }
-        ensures advances { Advances M.left result 0 (record self.old { stage = Going going ended }) self.new }
-        ensures nearer { going_left M.left self.new.stage < M.left going + 1 }
+        ensures stands { StandsStill M.handling machine.old (record self.old { stage = Pending pending ended }) machine.new self.new }
+        ensures advances { Advances M.left result 0 (record self.old { stage = Pending pending ended }) self.new }
+        ensures nearer { pending_left M.left self.new.stage < M.left pending + 1 }
         ensures after { IsAfter ended self.new.stage }
         ensures same { SameLines self.old self.new }
         ensures some { 0 < result }
@@ -145,7 +143,7 @@ impl<G: Drop, T: PieceText> LineEngine<G, T> {
         let Answered {
             answer,
             units: used,
-        } = machine.go_on(self.alloc, going, units);
+        } = machine.go_on(self.alloc, pending, units);
         self.take_answer(answer, ended);
         used.max(1)
     }

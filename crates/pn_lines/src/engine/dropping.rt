@@ -3,22 +3,20 @@
 ghost use Rattle.std.specs.Prelude.{◌≡◌, ◌⊎◌, ◌+◌, ◌≤◌, ◌<◌, [], ℕ, Vec, take, length, max};
 ghost use Rattle.std.specs.declared.alloc.Global.{Global};
 ghost use Rattle.pn_line.specs.declared.line_buffer.TheConstants.{ENDLESS, MAX_KEPT_BYTES};
-ghost use Rattle.pn_line.specs.Reads.{IsUnbroken};
-ghost use Rattle.pn_lines.specs.Engines.{dropping};
-ghost use Rattle.pn_lines.specs.Progress.{StepsTo, taken_by, units_by};
-ghost use Rattle.pn_lines.specs.Taking.{Takes};
+ghost use Rattle.pn_line.specs.Line.{IsUnbroken};
+ghost use Rattle.pn_lines.specs.Engines.{dropping, StepsTo, taken_by, units_by};
+ghost use Rattle.pn_lines.specs.Standing.{Takes};
 
 use crate::engine::reading::cost_of;
-use crate::engine::stage::{LinesEnd, Stage};
+use crate::engine::state::{LinesEnd, Stage};
 use crate::engine::{LineEngine, Next, Step};
-use crate::finding::find_newline;
+use crate::finding::{PieceText, find_newline};
 use crate::handler::{EndedBy, LineHandler, RefusesLong};
-use crate::piece_text::PieceText;
 use pn_line::{ENDLESS, MAX_KEPT_BYTES};
 
 impl<G: Drop, T: PieceText> LineEngine<G, T> {
     /// Drops more of a line that is too long, and has it refused at its end.
-    pub(super) fn drop_line<M: RefusesLong<Going = G, Text = T>>(
+    pub(super) fn drop_line<M: RefusesLong<Pending = G, Text = T>>(
         &mut self,
         machine: &mut M,
         dropped: usize,
@@ -62,7 +60,7 @@ impl<G: Drop, T: PieceText> LineEngine<G, T> {
     }
 
     // Drops this number of bytes, up to the most that a line may have.
-    fn drop_more<M: LineHandler<Going = G, Text = T>>(
+    fn drop_more<M: LineHandler<Pending = G, Text = T>>(
         &mut self,
         _machine: &M,
         dropped: usize,

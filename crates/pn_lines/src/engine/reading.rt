@@ -2,26 +2,23 @@
 
 ghost use Rattle.std.specs.Prelude.{◌≡◌, ◌⊎◌, ◌+◌, ◌*◌, ◌≤◌, ◌<◌, [], ℕ, Vec, length, true};
 ghost use Rattle.std.specs.declared.alloc.Global.{Global};
-ghost use Rattle.pn_line.specs.Reads.{IsUnbroken};
+ghost use Rattle.pn_line.specs.Line.{IsUnbroken};
 ghost use Rattle.pn_line.specs.declared.line_buffer.TheConstants.{MAX_LINE_BYTES};
-ghost use Rattle.pn_lines.specs.Engines.{dropping};
-ghost use Rattle.pn_lines.specs.Finding.{FindsLine, NewlineAt};
-ghost use Rattle.pn_lines.specs.Progress.{StepsTo, taken_by, units_by};
-ghost use Rattle.pn_lines.specs.Standing.{count_of as counted};
-ghost use Rattle.pn_lines.specs.Taking.{Takes};
-ghost use Rattle.pn_lines.specs.declared.engine.stage.Stage.TheVariants.{Reading};
+ghost use Rattle.pn_lines.specs.Engines.{dropping, StepsTo, taken_by, units_by};
+ghost use Rattle.pn_lines.specs.Giving.{FindsLine, NewlineAt};
+ghost use Rattle.pn_lines.specs.Standing.{count_of as counted, Takes};
+ghost use Rattle.pn_lines.specs.declared.engine.state.Stage.TheVariants.{Reading};
 ghost use Rattle.pn_lines.specs.declared.engine.TheConstants.{UNIT_BYTES};
 
-use crate::engine::stage::{LinesEnd, Stage};
+use crate::engine::state::{LinesEnd, Stage};
 use crate::engine::{LineEngine, Next, Step, UNIT_BYTES};
-use crate::finding::{Found, find_line};
+use crate::finding::{Found, PieceText, find_line};
 use crate::handler::{EndedBy, LineHandler};
-use crate::piece_text::PieceText;
 use pn_line::MAX_KEPT_BYTES;
 
 impl<G: Drop, T: PieceText> LineEngine<G, T> {
     /// Takes the first line at hand, if it is whole, too long, or the last, unless no further line is answered.
-    pub(super) fn read_line<M: LineHandler<Going = G, Text = T>>(
+    pub(super) fn read_line<M: LineHandler<Pending = G, Text = T>>(
         &mut self,
         machine: &mut M,
         bytes: &[u8],
@@ -51,7 +48,7 @@ impl<G: Drop, T: PieceText> LineEngine<G, T> {
     }
 
     // Has the line of the first `at` bytes answered.
-    fn ask_line<M: LineHandler<Going = G, Text = T>>(
+    fn ask_line<M: LineHandler<Pending = G, Text = T>>(
         &mut self,
         machine: &mut M,
         bytes: &[u8],
@@ -76,7 +73,7 @@ impl<G: Drop, T: PieceText> LineEngine<G, T> {
     }
 
     // Has the last part answered.
-    fn ask_last<M: LineHandler<Going = G, Text = T>>(
+    fn ask_last<M: LineHandler<Pending = G, Text = T>>(
         &mut self,
         machine: &mut M,
         bytes: &[u8],
@@ -101,7 +98,7 @@ impl<G: Drop, T: PieceText> LineEngine<G, T> {
     }
 
     // Drops the first bytes of a line that is too long.
-    fn begin_long<M: LineHandler<Going = G, Text = T>>(
+    fn begin_long<M: LineHandler<Pending = G, Text = T>>(
         &mut self,
         _machine: &M,
         bytes: &[u8],

@@ -1,20 +1,42 @@
-//! How the parts of an engine's state change.
+//! The state of an engine, and its stage.
 
-ghost use Rattle.std.specs.Prelude.{◌≡◌, ◌≢◌, ◌+◌, ◌≤◌, ◌<◌, ◌↔◌, ◌-◌, ◌^◌};
-ghost use Rattle.std.specs.Prelude.{IfNone, IfSome, IsFalse, IsTrue, [], length, max, min, vec_len, vec_capacity};
+ghost use Rattle.std.specs.Prelude.{◌≡◌, ◌≢◌, ◌+◌, ◌≤◌, ◌<◌, ◌↔◌, ◌-◌, ◌^◌, IfNone, IfSome, IsFalse, IsTrue, [], length, max, min, vec_len, vec_capacity};
 ghost use Rattle.pn_lines.specs.Answers.{answer_of};
-ghost use Rattle.pn_lines.specs.Engines.{after_answer, dropping, is_going as goes_on, stage_after as next_stage, with_lines};
+ghost use Rattle.pn_lines.specs.Engines.{after_answer, dropping, is_pending as goes_on, stage_after as next_stage, with_lines};
 ghost use Rattle.pn_lines.specs.Giving.{Gives};
 ghost use Rattle.pn_lines.specs.declared.engine.TheConstants.{BLOCK_BYTES};
-ghost use Rattle.pn_lines.specs.Replies.{one_if};
-ghost use Rattle.pn_lines.specs.declared.engine.stage.Stage.TheVariants.{Reading};
-ghost use Rattle.pn_lines.specs.declared.piece_text.TheConstants.{MAX_PIECE_BYTES};
+ghost use Rattle.pn_lines.specs.Handling.{one_if};
+ghost use Rattle.pn_lines.specs.declared.engine.state.Stage.TheVariants.{Reading};
+ghost use Rattle.pn_lines.specs.declared.finding.TheConstants.{MAX_PIECE_BYTES};
 
-use crate::engine::stage::{LinesEnd, Stage};
 use crate::engine::{BLOCK_BYTES, LineEngine};
-use crate::handler::{Answer, EndedBy, LineReply};
-use crate::piece_text::{MAX_PIECE_BYTES, PieceText};
+use crate::finding::{MAX_PIECE_BYTES, PieceText};
+use crate::handler::{EndedBy, LineOutcome, LineReply};
 use std::mem;
+
+/// What is done next, once no text is left to be made.
+#[derive(Drop)]
+pub(crate) enum Stage<G> {
+    /// Lines are taken. Of a line that is too long, this number of bytes was dropped.
+    Reading(usize),
+    /// An answer is gone on with, to a line that ended so.
+    Pending(G, EndedBy),
+    /// No more is taken.
+    Ended(LinesEnd),
+}
+
+/// How the lines of an input ended.
+#[derive(Clone, Copy, Debug, PartialEq, Eq)]
+pub enum LinesEnd {
+    /// With the input. All lines were answered.
+    Input,
+    /// With the handler, which answers no further line. All lines before were answered.
+    Closed,
+    /// There are more lines than may be answered. As many were.
+    TooManyLines,
+    /// A line has no end. All lines before were answered.
+    EndlessLine,
+}
 
 impl<G: Drop, T: PieceText> LineEngine<G, T> {
     /// What is done next. The engine then reads, and keeps nothing of a reply whose text is made.
@@ -51,18 +73,18 @@ impl<G: Drop, T: PieceText> LineEngine<G, T> {
     }
 
     /// Takes the answer to a line.
-    pub(super) fn take_answer(&mut self, answer: Answer<G, T>, ended: EndedBy)
+    pub(super) fn take_answer(&mut self, answer: LineOutcome<G, T>, ended: EndedBy)
         ensures { self.new ≡ after_answer (answer_of T.unmade answer) ended self.old }
     {
         match answer {
-            Answer::Done(reply) => self.take_reply(reply, ended),
-            Answer::Going(going) => self.stage = Stage::Going(going, ended),
+            LineOutcome::Done(reply) => self.take_reply(reply, ended),
+            LineOutcome::Pending(pending) => self.stage = Stage::Pending(pending, ended),
         }
     }
 
     // Takes the reply to a line.
     fn take_reply(&mut self, reply: LineReply<T>, ended: EndedBy)
-        ensures { self.new ≡ after_answer (answer_of T.unmade (Answer.Done reply)) ended self.old }
+        ensures { self.new ≡ after_answer (answer_of T.unmade (LineOutcome.Done reply)) ended self.old }
     {
         self.counts.refused = count_if(self.counts.refused, reply.is_refusal);
         self.text = Some(reply.text);
@@ -81,11 +103,11 @@ impl<G: Drop, T: PieceText> LineEngine<G, T> {
     }
 
     /// Whether an answer is gone on with.
-    pub(crate) fn is_going(&self) -> bool
+    pub(crate) fn is_pending(&self) -> bool
         ensures { result ≡ goes_on self.now.stage }
     {
         match &self.stage {
-            Stage::Going(_, _) => true,
+            Stage::Pending(_, _) => true,
             Stage::Reading(_) | Stage::Ended(_) => false,
         }
     }

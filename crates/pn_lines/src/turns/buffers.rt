@@ -3,7 +3,7 @@
 ghost use Rattle.std.specs.Prelude.{◌≡◌, ◌≢◌, ◌⊎◌, ◌≤◌, [], IfOk, length};
 ghost use Rattle.std.specs.IoError.{error_kind};
 ghost use Rattle.pn_line.specs.declared.line_buffer.TheConstants.{MAX_LINE_BYTES};
-ghost use Rattle.pn_lines.specs.TurnStates.{Comes, TakesFirst};
+ghost use Rattle.pn_lines.specs.Turns.{Comes, TakesFirst};
 ghost use Rattle.pn_lines.specs.declared.turns.buffers.TheConstants.{MAX_UNREAD};
 
 use crate::turns::input::{Input, READ_SIZE, is_wait};
@@ -33,10 +33,10 @@ pub struct TurnBuffers {
 
 impl Model for TurnBuffers {
     ghost use Rattle.std.specs.Prelude.{◌≡◌, ◌≤◌, vec_len, vec_capacity};
-    ghost use Rattle.pn_lines.specs.declared.piece_text.TheConstants.{MAX_PIECE_BYTES};
+    ghost use Rattle.pn_lines.specs.declared.finding.TheConstants.{MAX_PIECE_BYTES};
     ghost use Rattle.pn_lines.specs.declared.turns.buffers.TheConstants.{MAX_UNREAD};
     ghost use Rattle.pn_lines.specs.declared.turns.input.TheConstants.{READ_SIZE};
-    ghost use Rattle.pn_lines.specs.TurnStates.{BufferValue};
+    ghost use Rattle.pn_lines.specs.Turns.{BufferValue};
 
     ghost Value = { BufferValue };
 

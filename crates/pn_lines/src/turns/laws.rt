@@ -1,13 +1,12 @@
 //! What a whole input comes to, however it comes and its replies are taken, and whatever others do in between.
 
 ghost use Rattle.std.specs.Prelude.{◌≡◌, None, Ok, Some, IfSome, false};
-ghost use Rattle.pn_lines.specs.Ends.{HasEnded, start_at};
-ghost use Rattle.pn_lines.specs.TurnStates.{new_turns};
-ghost use Rattle.pn_lines.specs.Turns.{Finishes};
+ghost use Rattle.pn_lines.specs.Driving.{HasEnded, start_at};
+ghost use Rattle.pn_lines.specs.Turns.{new_turns, Finishes};
 
-use crate::engine::stage::LinesEnd;
+use crate::engine::state::LinesEnd;
+use crate::finding::PieceText;
 use crate::handler::{LineHandler, RefusesLong};
-use crate::piece_text::PieceText;
 use crate::turns::buffers::TurnBuffers;
 use crate::turns::input::Input;
 use crate::turns::{LineTurns, TurnOutcome};
@@ -34,7 +33,7 @@ pub trait Others<M: LineHandler> {
 pub fn answer_in_turns<
     G: Drop,
     T: PieceText,
-    M: RefusesLong<Going = G, Text = T>,
+    M: RefusesLong<Pending = G, Text = T>,
     R: Input,
     W: Sink,
     O: Others<M>,

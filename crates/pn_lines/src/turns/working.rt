@@ -1,15 +1,14 @@
 //! The work of a turn: lines are taken that are at hand, and more is read once where none is.
 
 ghost use Rattle.std.specs.Prelude.{◌≡◌, ◌≤◌, ◌+◌, ◌*◌, ◌⊎◌, ℕ, List, Option, length};
-ghost use Rattle.pn_lines.specs.TurnStates.{Works, held_in, is_last as last_at, next_work};
-ghost use Rattle.pn_lines.specs.Turns.{Worked, WorkedIn, at};
+ghost use Rattle.pn_lines.specs.Turns.{Works, held_in, is_last as last_at, next_work, Worked, WorkedIn, at};
 ghost use Rattle.pn_lines.specs.declared.engine.TheConstants.{MAX_STEP_UNITS};
 ghost use Rattle.pn_lines.specs.declared.turns.buffers.TheConstants.{MAX_UNREAD};
 
-use crate::engine::stage::LinesEnd;
+use crate::engine::state::LinesEnd;
 use crate::engine::{LineEngine, Next};
+use crate::finding::PieceText;
 use crate::handler::RefusesLong;
-use crate::piece_text::PieceText;
 use crate::turns::SourceState;
 use crate::turns::buffers::{Came, TurnBuffers};
 use crate::turns::input::Input;
@@ -32,7 +31,7 @@ pub(crate) enum Work {
 }
 
 /// Takes lines that are at hand, and reads once where no whole line is.
-pub(super) fn take_lines<G: Drop, T: PieceText, M: RefusesLong<Going = G, Text = T>, R: Input>(
+pub(super) fn take_lines<G: Drop, T: PieceText, M: RefusesLong<Pending = G, Text = T>, R: Input>(
     engine: &mut LineEngine<G, T>,
     source: &mut SourceState,
     buffers: &mut TurnBuffers,
@@ -59,7 +58,7 @@ pub(super) fn take_lines<G: Drop, T: PieceText, M: RefusesLong<Going = G, Text =
 }
 
 // Reads once where no whole line is at hand, and takes lines.
-fn read_on<G: Drop, T: PieceText, M: RefusesLong<Going = G, Text = T>, R: Input>(
+fn read_on<G: Drop, T: PieceText, M: RefusesLong<Pending = G, Text = T>, R: Input>(
     engine: &mut LineEngine<G, T>,
     source: &mut SourceState,
     buffers: &mut TurnBuffers,
@@ -106,7 +105,7 @@ fn turn_unless(is_all: bool, worked: Work) -> Work
 }
 
 // Takes lines that are at hand. How many units that took.
-fn work_on<G: Drop, T: PieceText, M: RefusesLong<Going = G, Text = T>>(
+fn work_on<G: Drop, T: PieceText, M: RefusesLong<Pending = G, Text = T>>(
     engine: &mut LineEngine<G, T>,
     source: SourceState,
     buffers: &mut TurnBuffers,

@@ -3,7 +3,7 @@
 ghost use Rattle.std.specs.Prelude.{◌≡◌, IsTrue};
 ghost use mathlib.Core.List.{IsPrefix};
 ghost use Rattle.pn_tablet.specs.Prelude.{state_of};
-ghost use Rattle.pn_live.specs.Published.{published_ops, state_in, seen_by, told_to, IsReaderOf};
+ghost use Rattle.pn_live.specs.Published.{published_ops, state_in, seen_by, learnt_by, IsReaderOf};
 
 use super::LiveTablet;
 use crate::published_state::PublishedState;
@@ -36,8 +36,8 @@ impl LiveTablet {
         requires { IsReaderOf self.now handle }
         ensures reader { IsReaderOf self.now result.0 }
         ensures seen { IsPrefix (seen_by handle) (seen_by result.0) }
-        ensures told { result.0.told ≡ handle.told }
-        ensures last { IsTrue result.1 → IsPrefix (seen_by handle) (published_ops self.now) × IsPrefix (told_to handle) (published_ops self.now) }
+        ensures learnt { result.0.learnt ≡ handle.learnt }
+        ensures last { IsTrue result.1 → IsPrefix (seen_by handle) (published_ops self.now) × IsPrefix (learnt_by handle) (published_ops self.now) }
     {
         let shown = self.writer.published();
         match handle.enter() {

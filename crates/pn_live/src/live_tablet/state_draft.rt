@@ -2,7 +2,7 @@
 
 ghost use Rattle.std.specs.Prelude.{◌≡◌, None, Ok, IfOk, IfErr, IfSome, OnOk, OnErr};
 ghost use Rattle.pn_apply.specs.Applying.{IsJoinIn};
-ghost use Rattle.pn_live.specs.Drafts.{TakesJoin, caught_up};
+ghost use Rattle.pn_live.specs.Attempts.{TakesJoin, caught_up};
 ghost use Rattle.pn_tablet.specs.Prelude.{HasPositions, Refuses, step, answer};
 ghost use Rattle.pn_tablet.specs.Steps.{is_memory, tablet_after};
 
@@ -20,12 +20,12 @@ pub struct StateDraft {
 
 impl Model for StateDraft {
     ghost use Rattle.std.specs.Prelude.{IfSome};
-    ghost use Rattle.pn_live.specs.Drafts.{TakesJoin, caught_up};
+    ghost use Rattle.pn_live.specs.Attempts.{TakesJoin, caught_up};
     ghost use Rattle.pn_tablet.specs.Tablets.{TabletStateValue};
 
     ghost Value = { TabletStateValue };
 
-    ghost use Rattle.pn_tablet.specs.Proofs.Coding.{tablet_code};
+    ghost use Rattle.pn_tablet.specs.Proofs.{tablet_code};
 
     ghost coded = { tablet_code };
 

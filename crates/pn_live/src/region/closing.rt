@@ -2,10 +2,9 @@
 
 ghost use Rattle.std.specs.Prelude.{◌≡◌, map, IfOk, IsTrue};
 ghost use Rattle.std.specs.List.{AllByRecursion};
-ghost use Rattle.pn_live.specs.Closing.{AllKnowPublished, AreOfTablets};
+ghost use Rattle.pn_live.specs.Readers.{AllKnowPublished, AreOfTablets, ReadsFrom};
 ghost use Rattle.pn_live.specs.LiveRegions.{core, IsReaderIn};
 ghost use Rattle.pn_live.specs.PublishedTablets.{state_at};
-ghost use Rattle.pn_live.specs.Readers.{ReadsFrom};
 
 use super::LiveRegion;
 use crate::published_tablet::PublishedTablet;

@@ -6,10 +6,9 @@ ghost use Rattle.pn_tablet.specs.Prelude.{HasPositions, Refuses, step, same_rang
 ghost use Rattle.pn_tablet.specs.Steps.{is_memory};
 ghost use Rattle.pn_tablet.specs.declared.state.TabletOp.TheVariants.{Lose};
 ghost use Rattle.pn_region.specs.Prelude.{after_loss, after_op, after_adoption, IsRegion, IsSince};
-ghost use Rattle.pn_live.specs.LiveRegions.{core, tablets_in};
+ghost use Rattle.pn_live.specs.LiveRegions.{core, tablets_in, after_op_at, Adopts};
 ghost use Rattle.pn_live.specs.PublishedTablets.{state_at, notes_of};
 ghost use Rattle.pn_live.specs.Readers.{AreNotesOf};
-ghost use Rattle.pn_live.specs.Recovery.{after_op_at, Adopts};
 
 use super::LiveRegion;
 use super::rounds::front_of;

@@ -98,7 +98,7 @@ impl LiveRegion {
         ensures kept { IfErr result (λ fault. self.new ≡ record self.old { log = refused_log self.old.log fault }) }
         ensures same { tablets_in self.new ≡ tablets_in self.old }
     {
-        match self.take(rt, shares, workers, gate) {
+        match self.take_round(rt, shares, workers, gate) {
             Ok(taken) => {
                 let (lists, done, front) = taken;
                 self.log.add(lists);
@@ -113,7 +113,7 @@ impl LiveRegion {
     }
 
     // Takes shares, and leaves the log. Answers what changed in each tablet, too.
-    fn take<R: Threads + Wait + Sync, G: Gate + Sync>(
+    fn take_round<R: Threads + Wait + Sync, G: Gate + Sync>(
         &mut self,
         rt: &R,
         shares: &[Share],

@@ -4,15 +4,12 @@ ghost use Rattle.std.specs.Prelude.{◌≡◌, ◌≤◌, length, IfOk, IfErr, O
 ghost use Rattle.std.specs.List.{AllByRecursion};
 ghost use Rattle.pn_tablet.specs.Prelude.{Refuses};
 ghost use Rattle.pn_tablet.specs.Steps.{is_memory};
-ghost use Rattle.pn_region.specs.Events.{adoption};
+ghost use Rattle.pn_region.specs.Events.{adoption, start_events};
 ghost use Rattle.pn_region.specs.Prelude.{after_adoption};
 ghost use Rattle.pn_region.specs.Regions.{new_region};
-ghost use Rattle.pn_region.specs.Starting.{start_events};
 ghost use Rattle.pn_live.specs.declared.region.opening.TheConstants.{MAX_READERS};
-ghost use Rattle.pn_live.specs.Events.{AllLeadLive, LeadsLive};
-ghost use Rattle.pn_live.specs.LiveRegions.{core, tablets_in};
+ghost use Rattle.pn_live.specs.LiveRegions.{AllLeadLive, LeadsLive, core, tablets_in, StartsLive, StopsStart};
 ghost use Rattle.pn_live.specs.Readers.{IsNewReader};
-ghost use Rattle.pn_live.specs.Starting.{StartsLive, StopsStart};
 
 use super::LiveRegion;
 use crate::fault::StartFault;

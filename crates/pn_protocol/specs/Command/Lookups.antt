@@ -1,21 +1,44 @@
 -- The commands that ask for records, and for what changed.
-use Rattle.std.specs.Prelude.{codes, Result, Ok}
-use Rattle.serde_json.specs.Data.{Members}
+use Rattle.std.specs.Prelude.{Option, Some, None, Result, Ok, Err, codes}
+use Rattle.serde_json.specs.Data.{Data, Members}
 use Rattle.serde_json.specs.Find.{get_member, as_str}
-use Rattle.pn_json.specs.Answers.{◌>>=◌}
+use Rattle.pn_json.specs.Answers.{fault_as, ◌>>=◌}
 use Rattle.pn_json.specs.Members.{member_as}
 use Rattle.pn_record.specs.Limits.{is_key}
-use Rattle.pn_protocol.specs.Command.Limits.{may_be_asked}
-use Rattle.pn_protocol.specs.Command.Meaning.{CommandValue, notices, read, scan}
-use Rattle.pn_protocol.specs.Command.Meaning as command
-use Rattle.pn_protocol.specs.Command.Queries.{query_at, query_shape, fitting_query}
-use Rattle.pn_protocol.specs.Command.RangeChecks.{fits, keys_fit, fitting_version}
-use Rattle.pn_protocol.specs.Command.ShapeChecks.{keys_alone, named_alone, number_alone, version_shape}
+use Rattle.pn_scan.specs.Queries.{QueryValue}
+use Rattle.pn_scan.specs.QueryReading.{query_in}
+use Rattle.pn_scan.specs.declared.query_json.QueryFault.{QueryFault}
+use Rattle.pn_scan.specs.declared.query_json.QueryFault.TheVariants as query
+use Rattle.pn_protocol.specs.declared.refusal.MemberName.TheVariants.{Query, Key, Keys, Since}
+use Rattle.pn_protocol.specs.declared.refusal.Refusal.{Refusal}
+use Rattle.pn_protocol.specs.declared.refusal.Refusal.TheVariants.{BadShape, OutOfRange, Memory}
+use Rattle.pn_protocol.specs.Command.Meaning.{may_be_asked, CommandValue, notices, read, scan}
+use Rattle.pn_protocol.specs.Command.Checks.{fits, keys_fit, fitting_version, keys_alone, named_alone, number_alone, version_shape}
 use Rattle.pn_protocol.specs.Command.Words.{members_of}
 use Rattle.pn_protocol.specs.declared.command.word.CommandWord.TheVariants.{Get, Notices, Read, Scan}
-use Rattle.pn_protocol.specs.declared.refusal.Part.TheVariants.{Key, Keys, Since}
-use Rattle.pn_protocol.specs.declared.refusal.Refusal.{Refusal}
-use Rattle.pn_protocol.specs.declared.refusal.Refusal.TheVariants.{BadShape}
+use Rattle.pn_protocol.specs.Command.Meaning as command
+
+-- The query of a `scan` command: its shape is checked with the other members, its ranges after them.
+
+-- the query of a member, or its fault; a missing one has the wrong shape
+abbrev pub query_at : Option Data → Result QueryValue QueryFault
+query_at None = Err query.BadShape
+query_at (Some d) = query_in d
+
+-- the refusal of a line for the fault of its query
+abbrev pub query_refusal : QueryFault → Refusal
+query_refusal query.BadShape = BadShape Query
+query_refusal query.OutOfRange = OutOfRange Query
+query_refusal query.Memory = Memory
+
+-- it has the shape of a query, whatever its ranges
+abbrev pub query_shape : Result QueryValue QueryFault → Result (Unit {0}) Refusal
+query_shape (Err query.BadShape) = Err (BadShape Query)
+query_shape reading = Ok tt
+
+-- a query of that shape, in its ranges
+abbrev pub fitting_query : Result QueryValue QueryFault → Result QueryValue Refusal
+fitting_query reading = fault_as query_refusal reading
 
 -- the line says the read of a key, a get of keys, or a scan
 abbrev pub AsksForRecords : Result CommandValue Refusal → Type 0

@@ -1,23 +1,24 @@
--- The text of rows that is still to be made.
-use Rattle.std.specs.Prelude.{◌≡◌, ◌≤◌, ◌+◌, ◌==◌, if◌then◌else◌, ◌<◌, ℕ, zero, suc, Bool, true, nat_lt, List, [], ◌∷◌, ◌++◌, length, map, drop, codes, zip, Option, None, Some, IfSome, Vec}
+-- The text of rows that is still to be made, and what the records of a reply weigh.
+use Rattle.std.specs.Prelude.{◌≡◌, ◌≤◌, ◌+◌, ◌==◌, if◌then◌else◌, ◌<◌, ℕ, zero, suc, Bool, true, nat_lt, List, [], ◌∷◌, ◌++◌, length, map, drop, codes, zip, Option, None, Some, IfSome, Vec, ◌-◌, ◌^◌, min}
 use Rattle.std.specs.declared.alloc.Global.{Global}
 use Rattle.std.specs.FinMap.{keys}
-use Rattle.std.specs.List.{slice_get}
+use Rattle.std.specs.List.{slice_get, sum_by}
 use Rattle.json.specs.Print.{quoted}
 use Rattle.serde_json.specs.Data.{Data}
 use Rattle.serde_json.specs.View.{items_of}
 use Rattle.serde_json.specs.Written.{compact_text, comma_if, items_text}
 use Rattle.pn_json.specs.Prelude.{AppendsText}
-use Rattle.pn_record.specs.Sets.{CellValue}
-use Rattle.pn_record.specs.States.{state_of}
+use Rattle.pn_record.specs.Sets.{CellValue, state_of}
 use Rattle.pn_record.specs.Writing.{content_data, version_data}
+use Rattle.pn_tablet.specs.Tablets.{record_weight}
 use Rattle.pn_protocol.specs.declared.reply.rows_text.TheConstants.{MAX_PART_BYTES}
 use Rattle.pn_protocol.specs.declared.reply.rows_text.RowsCursor.{RowsCursor}
 use Rattle.pn_protocol.specs.declared.reply.rows_text.RowsCursor.TheVariants.{Record, End}
 use Rattle.pn_protocol.specs.declared.reply.shown_records.ShownRecords.{ShownRecords}
+use Rattle.pn_protocol.specs.Reply.Records.{row_or_null, state_word}
 use Rattle.pn_protocol.specs.declared.reply.shown_records.ShownRecords.TheVariants as shown
-use Rattle.pn_protocol.specs.Reply.Record.{row_or_null}
-use Rattle.pn_protocol.specs.Reply.Rows.{state_word}
+
+-- The text of rows that is still to be made.
 
 -- a key with its cell, if there is one
 abbrev pub Found : Type 0
@@ -107,3 +108,14 @@ pub record MakesRecord (found : Found) (content : ℕ) (old new : Vec ℕ Global
   pub short : length part ≤ MAX_PART_BYTES
   pub some : 0 < length part
   pub next_is : HasContent next found
+
+-- What the records that a reply shows weigh.
+
+-- what the record of a key weighs, if there is one
+abbrev pub found_weight : Found → ℕ
+found_weight (key, None) = 0
+found_weight (key, Some cell) = record_weight (key, cell)
+
+-- what records weigh together, as far as that has 64 bits
+abbrev pub shown_weight : List Found → ℕ
+shown_weight records = min (sum_by found_weight records) (2 ^ 64 - 1)

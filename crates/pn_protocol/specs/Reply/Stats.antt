@@ -1,11 +1,15 @@
 -- The reply to `stats`.
-use Rattle.std.specs.Prelude.{ℕ, List, map, codes, Option, Some, None, String, string_bytes}
+use Rattle.std.specs.Prelude.{ℕ, List, codes, map, Option, Some, None, String, string_bytes}
 use Rattle.std.specs.declared.alloc.Global.{Global}
-use Rattle.serde_json.specs.Data.{Data, null, number, string, array, object, unsigned, Members, no_members, member}
+use Rattle.serde_json.specs.Data.{Data, number, object, unsigned, Members, no_members, member, array, null, string}
 use Rattle.serde_json.specs.View.{items_of}
-use Rattle.pn_protocol.specs.Reply.LineStats.{count, lines_data}
-use Rattle.pn_protocol.specs.Reply.TimeStats.{times_data}
-use Rattle.pn_protocol.specs.Reply.UnreadStats.{unread_data}
+use Rattle.pn_protocol.specs.declared.reply.line_stats.LineCounts.{LineCounts}
+use Rattle.pn_protocol.specs.declared.reply.line_stats.LineKinds.{LineKinds}
+use Rattle.pn_protocol.specs.declared.reply.line_stats.LineStats.{LineStats}
+use Rattle.pn_protocol.specs.declared.reply.line_stats.TimeBucket.{TimeBucket}
+use Rattle.pn_protocol.specs.declared.reply.line_stats.TimeCounts.{TimeCounts}
+use Rattle.pn_protocol.specs.declared.reply.line_stats.TimeStats.{TimeStats}
+use Rattle.pn_protocol.specs.declared.reply.line_stats.UnreadStats.{UnreadStats}
 use Rattle.pn_protocol.specs.declared.reply.stats.ConnectionStats.{ConnectionStats}
 use Rattle.pn_protocol.specs.declared.reply.stats.Stats.{Stats}
 use Rattle.pn_protocol.specs.declared.reply.stats.StreamFaultStats.{StreamFaultStats}
@@ -13,6 +17,60 @@ use Rattle.pn_protocol.specs.declared.reply.stats.StreamState.{StreamState}
 use Rattle.pn_protocol.specs.declared.reply.stats.StreamState.TheVariants.{Waiting, Open, Ended, Failed}
 use Rattle.pn_protocol.specs.declared.reply.stats.StreamStats.{StreamStats}
 use Rattle.pn_protocol.specs.declared.reply.stats.TabletStats.{TabletStats}
+
+-- The lines of clients in the reply to `stats`.
+
+-- a number, before the other members
+abbrev pub count : List ℕ → ℕ → Members → Members
+count name value others = member name (number (unsigned value)) others
+
+-- how many lines were answered, and how many of them were refused
+unfoldable pub line_counts_data : LineCounts → Data
+line_counts_data counts = object (count (codes "answered") counts.answered (count (codes "refused") counts.refused no_members))
+
+-- the lines of each kind
+unfoldable pub line_kinds_data : LineKinds → Data
+line_kinds_data kinds =
+    object (member (codes "copy") (line_counts_data kinds.copy)
+    (member (codes "get") (line_counts_data kinds.get)
+    (member (codes "other") (line_counts_data kinds.other)
+    (member (codes "read") (line_counts_data kinds.read)
+    (member (codes "scan") (line_counts_data kinds.scan) no_members)))))
+
+-- all lines, and those of each kind
+unfoldable pub lines_data : LineStats → Data
+lines_data lines =
+    object (count (codes "answered") lines.all.answered
+    (member (codes "kinds") (line_kinds_data lines.kinds)
+    (count (codes "refused") lines.all.refused no_members)))
+
+-- How long lines and rounds took, in the reply to `stats`.
+
+-- how many took at most a number of microseconds, but more than those of the bucket before
+unfoldable pub time_bucket_data : TimeBucket → Data
+time_bucket_data bucket = object (count (codes "count") bucket.count (count (codes "most") bucket.most no_members))
+
+-- how many took how long, how many there were, and how many microseconds they took together
+unfoldable pub time_counts_data : TimeCounts → Data
+time_counts_data times =
+    object (member (codes "buckets") (array (items_of (map time_bucket_data times.buckets.items)))
+    (count (codes "count") times.count
+    (count (codes "total") times.total no_members)))
+
+-- how long lines took, and how long rounds
+unfoldable pub times_data : TimeStats → Data
+times_data times =
+    object (member (codes "lines") (time_counts_data times.lines)
+    (member (codes "rounds") (time_counts_data times.rounds) no_members))
+
+-- The records that unread replies keep, in the reply to `stats`.
+
+-- the bytes of these records, the clients that were ended, and the limit
+unfoldable pub unread_data : UnreadStats → Data
+unread_data unread =
+    object (count (codes "bytes") unread.bytes
+    (count (codes "ended") unread.ended
+    (count (codes "limit") unread.limit no_members)))
 
 -- the word of a stream's state
 abbrev pub state_word : StreamState → List ℕ

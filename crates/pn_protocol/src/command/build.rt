@@ -6,9 +6,9 @@ ghost use Rattle.serde_json.specs.Find.{get};
 ghost use Rattle.serde_json.specs.View.{view, items_view};
 ghost use Rattle.pn_json.specs.Prelude.{seen, text_at, texts, each_in};
 ghost use Rattle.pn_record.specs.Prelude.{image_in, is_key};
-ghost use Rattle.pn_protocol.specs.Command.Deliveries.{batch_in, number_at, items_at as items_there};
+ghost use Rattle.pn_protocol.specs.Command.Lines.{batch_in, number_at, items_at as items_there};
 
-use crate::command::batch_parts::batch_parts;
+use crate::command::members::batch_parts;
 use pn_join::{Name, NoMemory};
 use pn_json::{items_from, member_from, text_or_empty};
 use pn_record::{Image, Key, image_from};

@@ -4,19 +4,16 @@ ghost use Rattle.std.specs.Prelude.{◌≡◌, ◌<◌, ℕ, List, false, Ok, le
 ghost use Rattle.serde_json.specs.View.{view, members_view};
 ghost use Rattle.pn_json.specs.Prelude.{Shows, ShowsUnless, seen, texts};
 ghost use Rattle.pn_record.specs.Prelude.{max_line_bytes};
-ghost use Rattle.pn_protocol.specs.Command.ControlGrammar.{IsControlLine};
-ghost use Rattle.pn_protocol.specs.Command.Controls.{ControlValue, control_at, control_in, control_members, control_value};
-ghost use Rattle.pn_protocol.specs.Command.Controls.{control_word_in, control_word_of as word_named};
-ghost use Rattle.pn_protocol.specs.Command.Controls.{adoption_in, alone_as, seconds_at, seconds_in, stop_in, waiting_in};
-ghost use Rattle.pn_protocol.specs.Command.Lines.{is_too_long};
-ghost use Rattle.pn_protocol.specs.Command.Objects.{TakesMemory};
-ghost use Rattle.pn_protocol.specs.Command.ShapeChecks.{named_alone};
+ghost use Rattle.pn_protocol.specs.Command.Controls.{IsControlLine, ControlValue, control_at, control_in, control_members, control_value, control_word_in};
+ghost use Rattle.pn_protocol.specs.Command.Controls.{control_word_of as word_named, adoption_in, alone_as, seconds_at, seconds_in, stop_in, waiting_in};
+ghost use Rattle.pn_protocol.specs.Command.Lines.{is_too_long, TakesMemory};
+ghost use Rattle.pn_protocol.specs.Command.Checks.{named_alone};
 
 use crate::command::members::{check_members, find_member, parse_number};
 use crate::command::parse::{AllowedCommands, parse_value};
 use crate::command::ranges::{check_adopted, check_seconds, check_since};
 use crate::command::word::CommandWord;
-use crate::{Command, Part, Refusal};
+use crate::{Command, MemberName, Refusal};
 use pn_json::whole_number_of;
 use pn_record::read_value;
 use serde_json::{Map, Value};
@@ -111,7 +108,9 @@ fn parse_control(alloc: Global, value: Value) -> Result<ControlCommand, Refusal>
     ensures exact { ShowsUnless Refusal.Memory control_value result (control_in (view value)) }
     ensures memory { IsErrOf result Refusal.Memory → TakesMemory AllowedCommands.Controls (view value) }
 {
-    let members = value.as_object().ok_or(Refusal::BadShape(Part::Whole))?;
+    let members = value
+        .as_object()
+        .ok_or(Refusal::BadShape(MemberName::Whole))?;
     match control_word(find_member(members, "do")) {
         Some(ControlWord::Adopt) => parse_adoption(members),
         Some(ControlWord::Advance) => parse_alone(
@@ -163,7 +162,7 @@ fn parse_adoption(members: &Map<String, Value>) -> Result<ControlCommand, Refusa
     ensures exact { Shows control_value result (adoption_in (members_view members.now.entries)) }
     ensures memory { IsErrOf result Refusal.Memory → ⊥ }
 {
-    let lines = parse_number(members, CommandWord::Adopt, "lines", Part::Lines)?;
+    let lines = parse_number(members, CommandWord::Adopt, "lines", MemberName::Lines)?;
     check_adopted(lines)?;
     Ok(ControlCommand::Script(Command::Adopt { lines }))
 }
@@ -175,12 +174,12 @@ fn parse_waiting(members: &Map<String, Value>) -> Result<ControlCommand, Refusal
 {
     let since = whole_number_of(
         find_member(members, "since"),
-        Refusal::BadShape(Part::Since),
+        Refusal::BadShape(MemberName::Since),
     )?;
-    let wait = seconds_of(find_member(members, "wait"), 0, Part::Wait)?;
+    let wait = seconds_of(find_member(members, "wait"), 0, MemberName::Wait)?;
     check_control_members(members, ControlWord::Notices)?;
     check_since(since)?;
-    check_seconds(wait, Part::Wait)?;
+    check_seconds(wait, MemberName::Wait)?;
     Ok(ControlCommand::Notices { since, wait })
 }
 
@@ -189,29 +188,33 @@ fn parse_stop(members: &Map<String, Value>) -> Result<ControlCommand, Refusal>
     ensures exact { Shows control_value result (stop_in (members_view members.now.entries)) }
     ensures memory { IsErrOf result Refusal.Memory → ⊥ }
 {
-    let seconds = seconds_of(find_member(members, "seconds"), STOP_SECONDS, Part::Seconds)?;
+    let seconds = seconds_of(
+        find_member(members, "seconds"),
+        STOP_SECONDS,
+        MemberName::Seconds,
+    )?;
     check_control_members(members, ControlWord::Stop)?;
-    check_seconds(seconds, Part::Seconds)?;
+    check_seconds(seconds, MemberName::Seconds)?;
     Ok(ControlCommand::Stop { seconds })
 }
 
 // The seconds that a member says, or the usual ones where it is missing or null.
-fn seconds_of(value: Option<&Value>, usual: u64, part: Part) -> Result<u64, Refusal>
-    ensures exact { result ≡ seconds_at usual part (seen value.entry) }
+fn seconds_of(value: Option<&Value>, usual: u64, member_name: MemberName) -> Result<u64, Refusal>
+    ensures exact { result ≡ seconds_at usual member_name (seen value.entry) }
     ensures memory { IsErrOf result Refusal.Memory → ⊥ }
 {
     match value {
         None => Ok(usual),
-        Some(value) => seconds_said(value, usual, part),
+        Some(value) => seconds_said(value, usual, member_name),
     }
 }
 
-fn seconds_said(value: &Value, usual: u64, part: Part) -> Result<u64, Refusal>
-    ensures exact { result ≡ seconds_in usual part (view value.now) }
+fn seconds_said(value: &Value, usual: u64, member_name: MemberName) -> Result<u64, Refusal>
+    ensures exact { result ≡ seconds_in usual member_name (view value.now) }
     ensures memory { IsErrOf result Refusal.Memory → ⊥ }
 {
     match value {
         Value::Null => Ok(usual),
-        _ => value.as_u64().ok_or(Refusal::BadShape(part)),
+        _ => value.as_u64().ok_or(Refusal::BadShape(member_name)),
     }
 }

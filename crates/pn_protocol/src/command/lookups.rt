@@ -3,16 +3,15 @@
 ghost use Rattle.std.specs.Prelude.{◌≡◌, IsOk, IsErrOf};
 ghost use Rattle.serde_json.specs.View.{members_view};
 ghost use Rattle.pn_json.specs.Prelude.{IsUnless, Shows, ShowsUnless, seen};
-ghost use Rattle.pn_protocol.specs.Command.Lookups.{get_in, notices_in, read_in, scan_in};
+ghost use Rattle.pn_protocol.specs.Command.Lookups.{get_in, notices_in, read_in, scan_in, query_at, query_refusal, query_shape};
 ghost use Rattle.pn_protocol.specs.Command.Meaning.{command_value};
-ghost use Rattle.pn_protocol.specs.Command.Queries.{query_at, query_refusal, query_shape};
 
 use crate::command::build::build_keys;
 use crate::command::members::{check_members_of, find_member, parse_keys, parse_number};
 use crate::command::ranges::{check_key, check_keys, check_since, check_version};
 use crate::command::shapes::version_numbers;
 use crate::command::word::CommandWord;
-use crate::{Command, Part, Refusal};
+use crate::{Command, MemberName, Refusal};
 use pn_json::text_of;
 use pn_record::Key;
 use pn_scan::{Query, QueryFault, read_query};
@@ -24,8 +23,8 @@ impl From<QueryFault> for Refusal {
 
     fn from(fault: QueryFault) -> Refusal {
         match fault {
-            QueryFault::BadShape => Refusal::BadShape(Part::Query),
-            QueryFault::OutOfRange => Refusal::OutOfRange(Part::Query),
+            QueryFault::BadShape => Refusal::BadShape(MemberName::Query),
+            QueryFault::OutOfRange => Refusal::OutOfRange(MemberName::Query),
             QueryFault::Memory => Refusal::Memory,
         }
     }
@@ -36,7 +35,7 @@ impl From<QueryFault> for Refusal {
 pub(crate) fn parse_get(alloc: Global, members: &Map<String, Value>) -> Result<Command, Refusal>
     ensures { ShowsUnless Refusal.Memory command_value result (get_in (members_view members.now.entries)) }
 {
-    let keys = parse_keys(alloc, members, CommandWord::Get, "keys", Part::Keys)?;
+    let keys = parse_keys(alloc, members, CommandWord::Get, "keys", MemberName::Keys)?;
     check_keys(&keys)?;
     Ok(Command::Get(build_keys(alloc, &keys)?))
 }
@@ -47,7 +46,7 @@ pub(crate) fn parse_notices(members: &Map<String, Value>) -> Result<Command, Ref
     ensures exact { Shows command_value result (notices_in (members_view members.now.entries)) }
     ensures memory { IsErrOf result Refusal.Memory → ⊥ }
 {
-    let since = parse_number(members, CommandWord::Notices, "since", Part::Since)?;
+    let since = parse_number(members, CommandWord::Notices, "since", MemberName::Since)?;
     check_since(since)?;
     Ok(Command::Notices { since })
 }
@@ -58,10 +57,13 @@ pub(crate) fn parse_read(alloc: Global, members: &Map<String, Value>) -> Result<
     ensures exact { ShowsUnless Refusal.Memory command_value result (read_in (members_view members.now.entries)) }
     ensures memory { IsErrOf result Refusal.Memory → IsOk (read_in (members_view members.now.entries)) }
 {
-    let text = text_of(find_member(members, "key"), Refusal::BadShape(Part::Key))?;
+    let text = text_of(
+        find_member(members, "key"),
+        Refusal::BadShape(MemberName::Key),
+    )?;
     let numbers = version_numbers(find_member(members, "version"))?;
     check_members_of(members, CommandWord::Read)?;
-    check_key(text, Part::Key)?;
+    check_key(text, MemberName::Key)?;
     let version = check_version(numbers)?;
     let key = Key::of_fitting(alloc, text)?;
     Ok(Command::Read { key, version })
@@ -96,7 +98,7 @@ fn check_shape(query: &Result<Query, QueryFault>) -> Result<(), Refusal>
     ensures memory { IsErrOf result Refusal.Memory → ⊥ }
 {
     match query {
-        Err(QueryFault::BadShape) => Err(Refusal::BadShape(Part::Query)),
+        Err(QueryFault::BadShape) => Err(Refusal::BadShape(MemberName::Query)),
         _ => Ok(()),
     }
 }

@@ -4,11 +4,10 @@ ghost use Rattle.std.specs.Prelude.{◌≡◌, ◌<◌, ℕ, List, false, Ok, le
 ghost use Rattle.serde_json.specs.View.{view, members_view};
 ghost use Rattle.pn_json.specs.Prelude.{Shows, ShowsUnless};
 ghost use Rattle.pn_record.specs.Prelude.{max_line_bytes};
-ghost use Rattle.pn_protocol.specs.Command.Deliveries.{deliver_at, deliver_in};
+ghost use Rattle.pn_protocol.specs.Command.Lines.{deliver_at, deliver_in, refusal_of, allowed_at, command_at, lookup_at, is_too_long, alone_in, allowed_in};
+ghost use Rattle.pn_protocol.specs.Command.Lines.{allowed_word, may_say as may_be_said, TakesMemory};
 ghost use Rattle.pn_protocol.specs.Command.Grammar.{IsCommandLine};
 ghost use Rattle.pn_protocol.specs.Command.Meaning.{CommandValue, deliver, command_value};
-ghost use Rattle.pn_protocol.specs.Command.Lines.{refusal_of, allowed_at, command_at, lookup_at, is_too_long};
-ghost use Rattle.pn_protocol.specs.Command.Objects.{alone_in, allowed_in, allowed_word, may_say as may_be_said, TakesMemory};
 
 use crate::command::build::{build_deliveries, items_at};
 use crate::command::lookups::{parse_get, parse_notices, parse_read, parse_scan};
@@ -17,7 +16,7 @@ use crate::command::ranges::check_batches;
 use crate::command::shapes::{BatchShape, batches_of};
 use crate::command::tablets::{parse_adopt, parse_copy, parse_lose, parse_relayout};
 use crate::command::word::{CommandUsers, CommandWord, word_of};
-use crate::{Command, Part, Refusal};
+use crate::{Command, MemberName, Refusal};
 use pn_json::{items_of, member_from};
 use pn_record::{ImageFault, read_value};
 use serde_json::{Map, Value};
@@ -31,8 +30,8 @@ impl From<ImageFault> for Refusal {
             ImageFault::TooLong => Refusal::TooLong,
             ImageFault::NotJson => Refusal::NotJson,
             ImageFault::Memory => Refusal::Memory,
-            ImageFault::BadShape(member) => Refusal::BadShape(Part::Image(member)),
-            ImageFault::OutOfRange(member) => Refusal::OutOfRange(Part::Image(member)),
+            ImageFault::BadShape(member) => Refusal::BadShape(MemberName::Image(member)),
+            ImageFault::OutOfRange(member) => Refusal::OutOfRange(MemberName::Image(member)),
         }
     }
 }
@@ -85,7 +84,7 @@ fn parse_allowed(alloc: Global, line: &[u8], allowed: AllowedCommands) -> Result
 }
 
 /// Reads a value as a command. Memory runs out only for a command, or while batches, keys or bounds are collected.
-#[tactic(auto, unfolding(crate::specs::Command::Objects::allowed_in, crate::specs::Command::Deliveries::deliver_at))]
+#[tactic(auto, unfolding(crate::specs::Command::Lines::allowed_in, crate::specs::Command::Lines::deliver_at))]
 pub(crate) fn parse_value(
     alloc: Global,
     value: Value,
@@ -94,7 +93,9 @@ pub(crate) fn parse_value(
     ensures exact { ShowsUnless Refusal.Memory command_value result (allowed_in allowed (view value)) }
     ensures memory { IsErrOf result Refusal.Memory → TakesMemory allowed (view value) }
 {
-    let members = value.as_object().ok_or(Refusal::BadShape(Part::Whole))?;
+    let members = value
+        .as_object()
+        .ok_or(Refusal::BadShape(MemberName::Whole))?;
     let word = word_of(find_member(members, "do"))?;
     check_allowed(allowed, word)?;
     match word {
@@ -134,7 +135,7 @@ fn may_say(allowed: AllowedCommands, users: CommandUsers) -> bool
 }
 
 // Checks all before it moves anything out of the value.
-#[tactic(auto, unfolding(crate::specs::Command::Deliveries::deliver_at))]
+#[tactic(auto, unfolding(crate::specs::Command::Lines::deliver_at))]
 fn parse_deliver(alloc: Global, value: Value) -> Result<Command, Refusal>
     ensures { ShowsUnless Refusal.Memory command_value result (deliver_at (view value)) }
 {
@@ -144,14 +145,16 @@ fn parse_deliver(alloc: Global, value: Value) -> Result<Command, Refusal>
 }
 
 // The batches of a `deliver` command, borrowed from its value.
-#[tactic(auto, unfolding(crate::specs::Command::Deliveries::deliver_in, crate::specs::Command::Deliveries::deliver_at))]
+#[tactic(auto, unfolding(crate::specs::Command::Lines::deliver_in, crate::specs::Command::Lines::deliver_at))]
 fn check_deliver(alloc: Global, value: &Value) -> Result<Vec<BatchShape<'_>>, Refusal>
     ensures { ShowsUnless Refusal.Memory (λ batches. deliver batches.items) result (deliver_at (view value.now)) }
 {
-    let members = value.as_object().ok_or(Refusal::BadShape(Part::Whole))?;
+    let members = value
+        .as_object()
+        .ok_or(Refusal::BadShape(MemberName::Whole))?;
     let items = items_of(
         find_member(members, "batches"),
-        Refusal::BadShape(Part::Batches),
+        Refusal::BadShape(MemberName::Batches),
     )?;
     let shapes = batches_of(alloc, items)?;
     check_members_of(members, CommandWord::Deliver)?;
@@ -160,7 +163,7 @@ fn check_deliver(alloc: Global, value: &Value) -> Result<Vec<BatchShape<'_>>, Re
 }
 
 // A command whose one member is its word.
-#[tactic(auto, unfolding(crate::specs::Command::Objects::alone_in))]
+#[tactic(auto, unfolding(crate::specs::Command::Lines::alone_in))]
 fn parse_alone(
     members: &Map<String, Value>,
     word: CommandWord,

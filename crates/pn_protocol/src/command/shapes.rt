@@ -1,12 +1,12 @@
-//! Checks the shapes of a line's parts, and borrows them from the parsed value.
+//! Checks the shapes of a line's members, and borrows them from the parsed value.
 
 ghost use Rattle.std.specs.Prelude.{◌≡◌, [], vec_capacity, IfOk, IsErrOf};
 ghost use Rattle.serde_json.specs.View.{view, items_view};
 ghost use Rattle.pn_json.specs.Prelude.{IsUnless, Shows, ShowsUnless, seen, texts, each_in};
-ghost use Rattle.pn_protocol.specs.Command.ShapeChecks.{image_shape, batch_shape, key_shape, required_in, version_shape};
+ghost use Rattle.pn_protocol.specs.Command.Checks.{image_shape, batch_shape, key_shape, required_in, version_shape};
 
-use crate::command::batch_parts::batch_parts;
-use crate::{Part, Refusal};
+use crate::command::members::batch_parts;
+use crate::{MemberName, Refusal};
 use pn_join::NoMemory;
 use pn_json::{items_of, text_of, whole_number_of};
 use pn_record::{UncheckedImage, numbers_of, unchecked_image};
@@ -14,7 +14,7 @@ use serde_json::Value;
 use std::alloc::Global;
 use std::marker::Model;
 
-/// The parts of a batch of the right shape. Their ranges are not checked yet.
+/// The members of a batch of the right shape. Their ranges are not checked yet.
 #[derive(Drop)]
 pub(crate) struct BatchShape<'v> {
     pub(crate) first: u64,
@@ -35,7 +35,7 @@ fn image_of(value: &Value) -> Result<UncheckedImage<'_>, Refusal>
 {
     match unchecked_image(value) {
         Ok(shape) => Ok(shape),
-        Err(member) => Err(Refusal::BadShape(Part::Image(member))),
+        Err(member) => Err(Refusal::BadShape(MemberName::Image(member))),
     }
 }
 
@@ -49,16 +49,18 @@ fn images_of(alloc: Global, items: &[Value]) -> Result<Vec<UncheckedImage<'_>>, 
     Ok(images)
 }
 
-#[tactic(auto, unfolding(crate::specs::Command::ShapeChecks::batch_shape))]
+#[tactic(auto, unfolding(crate::specs::Command::Checks::batch_shape))]
 fn batch_of(alloc: Global, value: &Value) -> Result<BatchShape<'_>, Refusal>
     ensures { IsUnless Refusal.Memory result (batch_shape (view value.now)) }
 {
-    let members = value.as_object().ok_or(Refusal::BadShape(Part::Batches))?;
+    let members = value
+        .as_object()
+        .ok_or(Refusal::BadShape(MemberName::Batches))?;
     let parts = batch_parts(members);
-    let first = whole_number_of(parts.first, Refusal::BadShape(Part::First))?;
-    let items = items_of(parts.images, Refusal::BadShape(Part::Images))?;
+    let first = whole_number_of(parts.first, Refusal::BadShape(MemberName::First))?;
+    let items = items_of(parts.images, Refusal::BadShape(MemberName::Images))?;
     let images = images_of(alloc, items)?;
-    let stream = text_of(parts.stream, Refusal::BadShape(Part::Stream))?;
+    let stream = text_of(parts.stream, Refusal::BadShape(MemberName::Stream))?;
     parts.named?;
     Ok(BatchShape {
         first,
@@ -78,23 +80,23 @@ pub(crate) fn batches_of(alloc: Global, items: &[Value]) -> Result<Vec<BatchShap
     Ok(batches)
 }
 
-fn key_text(value: &Value, part: Part) -> Result<&str, Refusal>
-    ensures { Shows (λ text. text.now) result (key_shape part (view value.now)) }
+fn key_text(value: &Value, member_name: MemberName) -> Result<&str, Refusal>
+    ensures { Shows (λ text. text.now) result (key_shape member_name (view value.now)) }
 {
-    value.as_str().ok_or(Refusal::BadShape(part))
+    value.as_str().ok_or(Refusal::BadShape(member_name))
 }
 
-/// The texts of an array of keys. The part names the fault.
+/// The texts of an array of keys. The member names the fault.
 pub(crate) fn key_texts<'v>(
     alloc: Global,
     items: &'v [Value],
-    part: Part,
+    member_name: MemberName,
 ) -> Result<Vec<&'v str>, Refusal>
-    ensures { ShowsUnless Refusal.Memory (λ keys. texts keys.items) result (each_in (key_shape part) (items_view items.now)) }
+    ensures { ShowsUnless Refusal.Memory (λ keys. texts keys.items) result (each_in (key_shape member_name) (items_view items.now)) }
 {
     let mut keys = with_capacity(alloc, items.len())?;
     for item in items {
-        keys.push_reserved(key_text(item, part)?);
+        keys.push_reserved(key_text(item, member_name)?);
     }
     Ok(keys)
 }
@@ -106,7 +108,7 @@ pub(crate) fn version_numbers(value: Option<&Value>) -> Result<Option<(u64, u64)
 {
     match value {
         None => Ok(None),
-        Some(value) => numbers_required(value).ok_or(Refusal::BadShape(Part::Version)),
+        Some(value) => numbers_required(value).ok_or(Refusal::BadShape(MemberName::Version)),
     }
 }
 

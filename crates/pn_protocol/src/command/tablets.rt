@@ -4,14 +4,13 @@ ghost use Rattle.std.specs.Prelude.{◌≡◌, IsOk, IsErrOf};
 ghost use Rattle.serde_json.specs.View.{view, members_view};
 ghost use Rattle.pn_json.specs.Prelude.{IsUnless, Shows, ShowsUnless, seen};
 ghost use Rattle.pn_protocol.specs.Command.Meaning.{command_value};
-ghost use Rattle.pn_protocol.specs.Command.Needs.{need_refusal, need_in, need_at, need_shape};
-ghost use Rattle.pn_protocol.specs.Command.Tablets.{adopt_in, copy_in, lose_in, relayout_in};
+ghost use Rattle.pn_protocol.specs.Command.Tablets.{need_refusal, need_in, need_at, need_shape, adopt_in, copy_in, lose_in, relayout_in};
 
 use crate::command::build::build_keys;
 use crate::command::members::{check_members_of, find_member, parse_keys, parse_number};
 use crate::command::ranges::{check_bounds, check_lines};
 use crate::command::word::CommandWord;
-use crate::{Command, Part, Refusal};
+use crate::{Command, MemberName, Refusal};
 use pn_join::{Marks, Table};
 use pn_json::whole_number_of;
 use pn_record::{ImageFault, marks_of};
@@ -24,7 +23,7 @@ pub(crate) fn parse_adopt(members: &Map<String, Value>) -> Result<Command, Refus
     ensures exact { Shows command_value result (adopt_in (members_view members.now.entries)) }
     ensures memory { IsErrOf result Refusal.Memory → ⊥ }
 {
-    let lines = parse_number(members, CommandWord::Adopt, "lines", Part::Lines)?;
+    let lines = parse_number(members, CommandWord::Adopt, "lines", MemberName::Lines)?;
     check_lines(lines)?;
     Ok(Command::Adopt { lines })
 }
@@ -35,7 +34,7 @@ pub(crate) fn parse_lose(members: &Map<String, Value>) -> Result<Command, Refusa
     ensures exact { Shows command_value result (lose_in (members_view members.now.entries)) }
     ensures memory { IsErrOf result Refusal.Memory → ⊥ }
 {
-    let tablet = parse_number(members, CommandWord::Lose, "tablet", Part::Tablet)?;
+    let tablet = parse_number(members, CommandWord::Lose, "tablet", MemberName::Tablet)?;
     Ok(Command::Lose { tablet })
 }
 
@@ -52,7 +51,7 @@ pub(crate) fn parse_relayout(
         members,
         CommandWord::Relayout,
         "bounds",
-        Part::Bounds,
+        MemberName::Bounds,
     )?;
     check_bounds(&bounds)?;
     Ok(Command::Relayout(build_keys(alloc, &bounds)?))
@@ -67,7 +66,7 @@ pub(crate) fn parse_copy(alloc: Global, members: &Map<String, Value>) -> Result<
     let need = need_of(alloc, find_member(members, "need"));
     check_need(&need)?;
     let tablet = find_member(members, "tablet");
-    let tablet = whole_number_of(tablet, Refusal::BadShape(Part::Tablet))?;
+    let tablet = whole_number_of(tablet, Refusal::BadShape(MemberName::Tablet))?;
     check_members_of(members, CommandWord::Copy)?;
     let need = need?;
     Ok(Command::Copy { need, tablet })
@@ -102,8 +101,8 @@ fn need_fault(fault: ImageFault) -> Refusal
         ImageFault::TooLong => Refusal::TooLong,
         ImageFault::NotJson => Refusal::NotJson,
         ImageFault::Memory => Refusal::Memory,
-        ImageFault::BadShape(_) => Refusal::BadShape(Part::Need),
-        ImageFault::OutOfRange(_) => Refusal::OutOfRange(Part::Need),
+        ImageFault::BadShape(_) => Refusal::BadShape(MemberName::Need),
+        ImageFault::OutOfRange(_) => Refusal::OutOfRange(MemberName::Need),
     }
 }
 
@@ -113,7 +112,7 @@ fn check_need(need: &Result<Marks, Refusal>) -> Result<(), Refusal>
     ensures memory { IsErrOf result Refusal.Memory → ⊥ }
 {
     match need {
-        Err(Refusal::BadShape(part)) => Err(Refusal::BadShape(*part)),
+        Err(Refusal::BadShape(member_name)) => Err(Refusal::BadShape(*member_name)),
         _ => Ok(()),
     }
 }

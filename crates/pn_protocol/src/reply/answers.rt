@@ -3,9 +3,8 @@
 ghost use Rattle.std.specs.Prelude.{◌≡◌, MatchResult};
 ghost use Rattle.pn_protocol.specs.declared.reply.Reply.TheVariants.{Text, Refused};
 ghost use Rattle.pn_protocol.specs.declared.refusal.Refusal.TheVariants.{Memory as no_memory};
-ghost use Rattle.pn_protocol.specs.Reply.Answers.{ShowsCopy, ShowsCopyOf, ShowsFound, ShowsPage};
-ghost use Rattle.pn_protocol.specs.Reply.Record.{get_data, read_data};
-ghost use Rattle.pn_protocol.specs.Reply.Scan.{scan_data};
+ghost use Rattle.pn_protocol.specs.Reply.Texts.{ShowsCopy, ShowsCopyOf, ShowsFound, ShowsPage};
+ghost use Rattle.pn_protocol.specs.Reply.Records.{get_data, read_data, scan_data};
 
 use crate::reply::scan::page_head;
 use crate::{CommandFault, PageReply, Refusal, Reply, refuse};

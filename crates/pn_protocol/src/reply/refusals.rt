@@ -1,27 +1,81 @@
-//! Replies to commands that were read and are not run. Where memory ran out, nothing is allocated for the reply.
+//! Errors, and the replies that refuse a command.
 
-ghost use Rattle.std.specs.Prelude.{◌≡◌, codes, IfOk};
+ghost use Rattle.std.specs.Prelude.{◌≡◌, IfOk, OnOk, codes};
+ghost use Rattle.pn_json.specs.Prelude.{line_of, Appends, value_tokens};
+ghost use Rattle.pn_protocol.specs.Reply.Faults.{detail_data, details_members, details_tokens, error_data, with_number, at_line, short_data, too_old_data};
+ghost use Rattle.pn_protocol.specs.Reply.Faults.{round_fault_data, lookup_fault_data, copy_fault_data, copy_text_fault_data, adopt_fault_data};
+ghost use Rattle.pn_protocol.specs.Reply.Faults.{relayout_fault_data, advance_fault_data, Refuses, RefusesWith, SaysWhy};
 ghost use Rattle.serde_json.specs.Data.{no_members};
-ghost use Rattle.pn_json.specs.Prelude.{line_of};
 ghost use Rattle.pn_region.specs.declared.fault.AdvanceFault.TheVariants.{Memory as no_memory_to_advance};
 ghost use Rattle.pn_region.specs.declared.fault.RelayoutFault.TheVariants.{Memory as no_memory_to_relay};
 ghost use Rattle.pn_region.specs.declared.fault.RoundFault.TheVariants.{Memory as no_memory_for_a_round};
-ghost use Rattle.pn_scan.specs.declared.fault.ScanFault.TheVariants.{Memory as no_memory_to_look};
+ghost use Rattle.pn_scan.specs.declared.view.ScanFault.TheVariants.{Memory as no_memory_to_look};
 ghost use Rattle.pn_tablet.specs.declared.fault.CopyFault.TheVariants.{Memory as no_memory_to_copy};
 ghost use Rattle.pn_tablet.specs.declared.fault.CopyTextFault.TheVariants.{Memory as no_memory_to_read};
 ghost use Rattle.pn_tablet.specs.declared.fault.OpFault.TheVariants.{Memory as no_memory_to_adopt};
-ghost use Rattle.pn_protocol.specs.Reply.Errors.{error_data, with_number};
-ghost use Rattle.pn_protocol.specs.Reply.Faults.{at_line, short_data, too_old_data, round_fault_data, lookup_fault_data};
-ghost use Rattle.pn_protocol.specs.Reply.Faults.{copy_fault_data, copy_text_fault_data, adopt_fault_data, relayout_fault_data, advance_fault_data};
-ghost use Rattle.pn_protocol.specs.Reply.Refusals.{Refuses, RefusesWith, SaysWhy};
 
-use crate::reply::errors::{Detail, error_reply};
+use crate::reply::scan::write_version_or_null;
 use crate::{Refusal, Reply};
+use json::Writer;
 use pn_join::{NoMemory, StreamName};
+use pn_json::{begin_line, finish_line, write_text_member};
+use pn_record::Version;
 use pn_region::{AdoptFault, AdvanceFault, RelayoutFault, RoundFault};
 use pn_scan::ScanFault;
 use pn_tablet::{CopyFault, CopyTextFault};
 use std::alloc::Global;
+
+/// What an error says of one thing.
+#[derive(Drop)]
+pub(crate) enum Detail {
+    Number(u64),
+    Stream(StreamName),
+    /// The version of a record, if there is one.
+    Version(Option<Version>),
+}
+
+/// The line of an error of this name, with named details, as `{"error":"bad-line","line":3}`.
+pub(crate) fn error_reply(
+    alloc: Global,
+    name: &str,
+    details: &[(&str, Detail)],
+) -> Result<Vec<u8>, NoMemory>
+    ensures { IfOk result (λ text. text.items ≡ line_of (error_data name.now (details_members details.now))) }
+{
+    let mut writer = begin_line(alloc)?;
+    write_error(&mut writer, name, details)?;
+    finish_line(writer)
+}
+
+fn write_error(writer: &mut Writer, name: &str, details: &[(&str, Detail)]) -> Result<(), NoMemory>
+    ensures { OnOk result (Appends writer.old writer.new (value_tokens (error_data name.now (details_members details.now)))) }
+{
+    writer.begin_object()?;
+    write_text_member(writer, "error", name)?;
+    write_details(writer, details)?;
+    writer.end_object()?;
+    Ok(())
+}
+
+fn write_details(writer: &mut Writer, details: &[(&str, Detail)]) -> Result<(), NoMemory>
+    ensures { OnOk result (Appends writer.old writer.new (details_tokens details.now)) }
+{
+    for detail in details {
+        writer.key(detail.0)?;
+        write_detail(writer, &detail.1)?;
+    }
+    Ok(())
+}
+
+fn write_detail(writer: &mut Writer, detail: &Detail) -> Result<(), NoMemory>
+    ensures { OnOk result (Appends writer.old writer.new (value_tokens (detail_data detail.now))) }
+{
+    match detail {
+        Detail::Number(number) => Ok(writer.u64(*number)?),
+        Detail::Stream(stream) => Ok(writer.string(stream.as_str())?),
+        Detail::Version(version) => write_version_or_null(writer, *version),
+    }
+}
 
 /// Why a command that was read is not run.
 #[derive(Debug, Drop)]

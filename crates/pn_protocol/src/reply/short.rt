@@ -67,7 +67,7 @@ pub(crate) fn text_reply(text: &str) -> ShortReply
 }
 
 /// The reply to a line that was refused, as `{"error":"bad-shape","member":"key"}`.
-#[tactic(auto, unfolding(pn_json::specs::Lines::line_of, crate::specs::Reply::Short::refusal_data, serde_json::proofs::OnLiterals::serde_json_on_literals))]
+#[tactic(auto, unfolding(pn_json::specs::Tokens::line_of, crate::specs::Reply::Short::refusal_data, serde_json::proofs::OnLiterals::serde_json_on_literals))]
 pub fn refusal_reply(refusal: &Refusal) -> ShortReply
     ensures { result ≡ line_of (refusal_data refusal.now) }
 {
@@ -75,15 +75,15 @@ pub fn refusal_reply(refusal: &Refusal) -> ShortReply
     match refusal {
         Refusal::TooLong => reply.push("{\"error\":\"too-long\"}\n"),
         Refusal::NotJson => reply.push("{\"error\":\"not-json\"}\n"),
-        Refusal::BadShape(part) => {
+        Refusal::BadShape(member_name) => {
             reply.push("{\"error\":\"bad-shape\",\"member\":\"");
-            reply.push(part.word());
+            reply.push(member_name.word());
             reply.push("\"}\n");
         }
         Refusal::ReadOnly => reply.push("{\"error\":\"read-only\"}\n"),
-        Refusal::OutOfRange(part) => {
+        Refusal::OutOfRange(member_name) => {
             reply.push("{\"error\":\"out-of-range\",\"member\":\"");
-            reply.push(part.word());
+            reply.push(member_name.word());
             reply.push("\"}\n");
         }
         Refusal::Memory => reply.push("{\"error\":\"memory\"}\n"),
@@ -109,7 +109,7 @@ pub enum NumberName {
 }
 
 /// The reply of one number, as `{"changed":3}`.
-#[tactic(auto, unfolding(pn_json::specs::Lines::line_of, crate::specs::Reply::Short::adopted_data, crate::specs::Reply::Short::changed_data, crate::specs::Reply::Short::lines_data, crate::specs::Reply::Short::lost_data, crate::specs::Reply::Short::relaid_data, crate::specs::Reply::Short::stopping_data, serde_json::proofs::OnLiterals::serde_json_on_literals))]
+#[tactic(auto, unfolding(pn_json::specs::Tokens::line_of, crate::specs::Reply::Short::number_data, serde_json::proofs::OnLiterals::serde_json_on_literals))]
 pub fn number_reply(name: NumberName, number: u64) -> ShortReply
     ensures { result ≡ line_of (number_reply_data name number) }
 {

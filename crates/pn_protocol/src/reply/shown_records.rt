@@ -3,10 +3,9 @@
 ghost use Rattle.std.specs.Prelude.{◌≡◌, ◌-◌, ◌<◌, ◌^◌, ◌∷◌, [], length, map, min, option_map, zip, Some};
 ghost use Rattle.std.specs.List.{slice_get};
 ghost use Rattle.std.specs.Option.{option_copied};
-ghost use Rattle.pn_protocol.specs.Reply.Making.{Found, end_of, found_in};
-ghost use Rattle.pn_protocol.specs.Reply.Weights.{found_weight as weighs, shown_weight};
+ghost use Rattle.pn_protocol.specs.Reply.Making.{Found, end_of, found_in, found_weight as weighs, shown_weight};
 
-use crate::reply::prefetch::prefetch_rows;
+use crate::reply::rows_text::prefetch_rows;
 use pn_record::{Cell, Key};
 use pn_scan::Row;
 use pn_tablet::record_weight;

@@ -5,10 +5,8 @@ ghost use Rattle.pn_json.specs.Prelude.{line_of, member_tokens, Appends, value_t
 ghost use Rattle.pn_protocol.specs.Reply.Stats.{connections_data, fault_line, fault_reason};
 ghost use Rattle.pn_protocol.specs.Reply.Stats.{number_or_null, state_word as word_of_state, stats_data, text_or_null};
 
-use crate::reply::line_stats::LineStats;
-use crate::reply::shown::{Shown, shown_line, write_array};
-use crate::reply::time_stats::TimeStats;
-use crate::reply::unread_stats::UnreadStats;
+use crate::reply::line_stats::{LineStats, TimeStats, UnreadStats};
+use crate::reply::scan::{Shown, shown_line, write_array};
 use json::Writer;
 use pn_join::{NoMemory, StreamName};
 use pn_json::{write_null_member, write_number_member, write_text_member};
@@ -58,7 +56,7 @@ pub struct TabletStats {
 #[derive(Drop)]
 pub struct StreamStats {
     pub name: StreamName,
-    /// Where its writers come.
+    /// Where its publishers come.
     pub path: String,
     /// Up to which position rounds have taken it.
     pub position: u64,
@@ -68,16 +66,16 @@ pub struct StreamStats {
     pub state: StreamState,
     /// How many seconds ago the last message came, if one came.
     pub since: Option<u64>,
-    /// The last fault of a writer, if there was one.
+    /// The last fault of a publisher, if there was one.
     pub fault: Option<StreamFaultStats>,
-    /// Whose stream it is, if a writer said so.
+    /// Whose stream it is, if a publisher said so.
     pub stream: Option<String>,
-    /// The broker's newest position and how many seconds ago a writer told it, if one did.
+    /// The broker's newest position and how many seconds ago a publisher told it, if one did.
     pub newest: Option<u64>,
     pub heard: Option<u64>,
 }
 
-/// The fault of a writer: in which of its lines, from 1, and what it is.
+/// The fault of a publisher: in which of its lines, from 1, and what it is.
 #[derive(Drop)]
 pub struct StreamFaultStats {
     pub line: u64,
@@ -87,13 +85,13 @@ pub struct StreamFaultStats {
 /// How a stream goes.
 #[derive(Clone, Copy, Debug, PartialEq, Eq)]
 pub enum StreamState {
-    /// No writer has come so far.
+    /// No publisher has come so far.
     Waiting,
-    /// A writer is read.
+    /// A publisher is read.
     Open,
-    /// The last writer has gone.
+    /// The last publisher has gone.
     Ended,
-    /// The last writer was read no further, since it had a fault.
+    /// The last publisher was read no further, since it had a fault.
     Failed,
 }
 

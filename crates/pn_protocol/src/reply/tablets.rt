@@ -5,7 +5,7 @@ ghost use Rattle.std.specs.Option.{option_copied};
 ghost use Rattle.serde_json.specs.Data.{array};
 ghost use Rattle.serde_json.specs.View.{items_of};
 ghost use Rattle.pn_json.specs.Prelude.{line_of, Appends, value_tokens};
-ghost use Rattle.pn_protocol.specs.Reply.Tablets.{end_data, marks_reply_data, need_data, tablet_data, tablets_data};
+ghost use Rattle.pn_protocol.specs.Reply.Short.{end_data, marks_reply_data, need_data, tablet_data, tablets_data};
 
 use json::Writer;
 use pn_join::{Marks, NoMemory};
@@ -63,7 +63,7 @@ pub fn tablets_reply<T: ShownTablets>(alloc: Global, region: &T) -> Result<Vec<u
     finish_line(writer)
 }
 
-#[tactic(auto, unfolding(crate::specs::Reply::Tablets::tablets_data))]
+#[tactic(auto, unfolding(crate::specs::Reply::Short::tablets_data))]
 fn write_tablets_object<T: ShownTablets>(writer: &mut Writer, region: &T) -> Result<(), NoMemory>
     ensures { OnOk result (Appends writer.old writer.new (value_tokens (tablets_data (T.tablets region.now)))) }
 {
@@ -129,7 +129,7 @@ pub fn marks_reply(alloc: Global, marks: &Marks) -> Result<Vec<u8>, NoMemory>
     finish_line(writer)
 }
 
-#[tactic(auto, unfolding(crate::specs::Reply::Tablets::marks_reply_data))]
+#[tactic(auto, unfolding(crate::specs::Reply::Short::marks_reply_data))]
 fn write_marks_object(writer: &mut Writer, marks: &Marks) -> Result<(), NoMemory>
     ensures { OnOk result (Appends writer.old writer.new (value_tokens (marks_reply_data marks.now))) }
 {

@@ -3,9 +3,8 @@
 ghost use Rattle.std.specs.Prelude.{◌≡◌, ◌≢◌, ◌+◌, ◌-◌, ◌<◌, ◌≤◌, ◌↔◌, [], ◌++◌, false, drop, length, min, take, vec_capacity, vec_len, IsTrue};
 ghost use Rattle.pn_json.specs.Prelude.{AppendsText, MakesPiece, line_of};
 ghost use Rattle.pn_protocol.specs.Reply.Making.{end_of, found_in, rows_text};
-ghost use Rattle.pn_protocol.specs.Reply.Pieces.{head_bytes, rest_bytes};
+ghost use Rattle.pn_protocol.specs.Reply.Texts.{head_bytes, rest_bytes, reply_text};
 ghost use Rattle.pn_protocol.specs.Reply.Short.{number_reply_data};
-ghost use Rattle.pn_protocol.specs.Reply.Texts.{reply_text};
 ghost use Rattle.pn_protocol.specs.declared.reply.Reply.TheVariants.{Page};
 
 use crate::reply::rows_text::RowsText;
@@ -47,7 +46,7 @@ enum Rest {
 
 impl Model for ReplyText {
     ghost use Rattle.std.specs.Prelude.{ℕ, List, ◌≤◌, ◌++◌, drop, length};
-    ghost use Rattle.pn_protocol.specs.Reply.Pieces.{head_bytes, rest_bytes};
+    ghost use Rattle.pn_protocol.specs.Reply.Texts.{head_bytes, rest_bytes};
 
     ghost Value = { List ℕ };
 
@@ -65,7 +64,7 @@ impl ReplyText {
             Reply::Adopted(tablet) => ReplyText::number(NumberName::Adopted, tablet),
             Reply::Changed(count) => ReplyText::number(NumberName::Changed, count),
             Reply::Copy(copy) => {
-                let lines = number_reply(NumberName::Lines, copy.lines());
+                let lines = number_reply(NumberName::Lines, copy.line_count());
                 ReplyText::of(Head::Short(lines), Rest::Lines(copy))
             }
             Reply::Lost(tablet) => ReplyText::number(NumberName::Lost, tablet),

@@ -6,7 +6,7 @@ ghost use Rattle.std.specs.BTreeMap.{IsOrdered};
 ghost use Rattle.serde_json.specs.View.{view, members_view};
 ghost use Rattle.pn_join.specs.Prelude.{Positions, are_positions, is_name};
 ghost use Rattle.pn_json.specs.Prelude.{Appends, IsUnless, value_tokens, whole_number};
-ghost use Rattle.pn_record.specs.Faults.{IsOfValue};
+ghost use Rattle.pn_record.specs.Grammar.{IsOfValue};
 ghost use Rattle.pn_record.specs.Marks.{IsMarks, is_mark as is_mark_of, all_whole, positions_of, positions_data, marks_data, marks_in};
 
 use crate::{ImageFault, Member};

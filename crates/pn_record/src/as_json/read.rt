@@ -3,19 +3,14 @@
 ghost use Rattle.std.specs.Prelude.{◌≡◌, ◌⊎◌, ◌<◌, ◌↔◌, length, map, IfOk, IfErr, IsOk, IsErrOf, IsTrue};
 ghost use Rattle.serde_json.specs.Errors.{IsMemory};
 ghost use Rattle.serde_json.specs.View.{view, members_view};
-ghost use Rattle.pn_record.specs.Bodies.{names_rise as all_rise};
-ghost use Rattle.pn_record.specs.Limits.{max_line_bytes};
-ghost use Rattle.pn_record.specs.Seen.{body_rises, seen_fields};
+ghost use Rattle.pn_record.specs.Limits.{names_rise as all_rise, max_line_bytes};
+ghost use Rattle.pn_record.specs.Reading.{body_rises, seen_fields, version_in, value_at, image_at, IsImage, IsImageLine};
 ghost use Rattle.pn_record.specs.Showing.{shown_field, shown_body};
 ghost use Rattle.pn_json.specs.Prelude.{IsUnless, ShowsUnless};
-ghost use Rattle.pn_record.specs.Faults.{IsOfValue};
-ghost use Rattle.pn_record.specs.BodyGrammar.{fields_of};
-ghost use Rattle.pn_record.specs.Grammar.{ranges_in, image_in};
-ghost use Rattle.pn_record.specs.Reading.{version_in, value_at, image_at};
-ghost use Rattle.pn_record.specs.Canonical.{IsImage, IsImageLine};
-ghost use Rattle.pn_record.specs.declared.image.Image.{Image as ImageRecord};
+ghost use Rattle.pn_record.specs.Grammar.{IsOfValue, fields_of, ranges_in, image_in};
+ghost use Rattle.pn_record.specs.declared.records.Image.{Image as ImageRecord};
 
-use crate::as_json::ranges::value_or_empty;
+use crate::as_json::unchecked::value_or_empty;
 use crate::content::Value as FieldValue;
 use crate::{
     Body, Content, Image, ImageFault, Key, Member, UncheckedImage, Version, image_from, numbers_of,

@@ -1,16 +1,20 @@
-//! Images as read: the members of a parsed value have the right kinds, and their limits are not checked yet.
+//! Parts of images that are borrowed from a JSON value, and their ranges.
 
 ghost use Rattle.std.specs.Prelude.{◌≡◌, string_cmp, IsTrue, IfOk};
 ghost use Rattle.std.specs.BTreeMap.{IsOrdered};
 ghost use Rattle.serde_json.specs.View.{view, items_view, members_view};
 ghost use Rattle.pn_json.specs.Prelude.{seen, member_as, Shows};
-ghost use Rattle.pn_record.specs.BodyGrammar.{all_values, deleted_in, fields_in};
-ghost use Rattle.pn_record.specs.Grammar.{numbers_in, two_numbers, shape_in};
-ghost use Rattle.pn_record.specs.Seen.{seen_fields, body_rises};
+ghost use Rattle.pn_record.specs.Grammar.{all_values, deleted_in, fields_in, value_or_empty as value_given, fields_of, body_fits as body_in_range, numbers_in};
+ghost use Rattle.pn_record.specs.Grammar.{two_numbers, shape_in, ranges_in};
+ghost use Rattle.pn_record.specs.Reading.{seen_fields, body_rises};
 ghost use Rattle.pn_record.specs.Writing.{image_data};
+ghost use Rattle.pn_record.specs.Limits.{fields_fit as all_fit};
+ghost use Rattle.pn_record.specs.Showing.{shown_ref};
 
-use crate::as_json::parts::parts_of;
-use crate::{Member, value_of};
+use crate::as_json::moved::parts_of;
+use crate::version::{MAX_FIELD_BYTES, MAX_FIELDS};
+use crate::{Key, Member, ValueRef, Version, is_field, value_of};
+use pn_join::Name;
 use pn_json::text_of;
 use serde_json::{Map, Value};
 use std::marker::Model;
@@ -55,11 +59,11 @@ pub struct UncheckedImage<'v> {
 }
 
 impl<'v> Model for UncheckedImage<'v> {
-    ghost use Rattle.pn_record.specs.declared.image.Image.{Image};
+    ghost use Rattle.pn_record.specs.declared.records.Image.{Image};
 
     ghost Value = { Image };
 
-    ghost use Rattle.pn_record.specs.Seen.{seen_fields};
+    ghost use Rattle.pn_record.specs.Reading.{seen_fields};
 
     ghost view = { λ s. record { key = s.key.now; version = s.version; content = (seen_fields s.fields, s.master.now) } };
 }
@@ -120,4 +124,64 @@ fn has_values_alone(members: &Map<String, Value>) -> bool
         }
     }
     true
+}
+
+impl UncheckedImage<'_> {
+    /// The first member that breaks a limit, if one does: the fields, the key, the master, the version.
+    #[tactic(auto, unfolding(crate::specs::Grammar::ranges_in))]
+    pub fn check_ranges(&self) -> Result<(), Member>
+        ensures { result ≡ ranges_in self.now }
+    {
+        if !body_fits(self.fields) {
+            return Err(Member::Fields);
+        }
+        if !Key::fits(self.key) {
+            return Err(Member::Key);
+        }
+        if !Name::fits(self.master.as_bytes()) {
+            return Err(Member::Master);
+        }
+        let (generation, number) = self.version;
+        if Version::new(generation, number).is_none() {
+            return Err(Member::Version);
+        }
+        Ok(())
+    }
+}
+
+fn body_fits(fields: Option<&Map<String, Value>>) -> bool
+    ensures { result ≡ body_in_range (seen_fields fields.entry) }
+{
+    match fields {
+        None => true,
+        Some(members) => fields_fit(members),
+    }
+}
+
+#[tactic(auto, using(crate::proofs::MarksValues::fields_count))]
+fn fields_fit(members: &Map<String, Value>) -> bool
+    ensures { result ≡ all_fit (fields_of (members_view members.now.entries)) }
+{
+    if members.len() > MAX_FIELDS {
+        return false;
+    }
+    let mut bytes = 0;
+    for (name, value) in members.iter() {
+        let value = value_or_empty(value);
+        if !is_field(name.as_str(), value) {
+            return false;
+        }
+        bytes += name.len() + value.size();
+        if bytes > MAX_FIELD_BYTES {
+            return false;
+        }
+    }
+    true
+}
+
+/// The value that a JSON value stands for, or an empty text.
+pub(crate) fn value_or_empty(value: &Value) -> ValueRef<'_>
+    ensures { shown_ref result ≡ value_given (view value.now) }
+{
+    value_of(value).unwrap_or(ValueRef::Text(""))
 }

@@ -4,11 +4,9 @@ ghost use Rattle.std.specs.Prelude.{◌≡◌, ◌<◌, length, codes, map, Ok, 
 ghost use Rattle.serde_json.specs.Data.{object, string, member, no_members};
 ghost use Rattle.serde_json.specs.View.{view};
 ghost use Rattle.serde_json.specs.Written.{compact_text};
-ghost use Rattle.pn_record.specs.Bodies.{names_rise};
-ghost use Rattle.pn_record.specs.Limits.{is_version};
+ghost use Rattle.pn_record.specs.Limits.{names_rise, is_version};
 ghost use Rattle.pn_record.specs.Showing.{shown_ref, shown_field};
-ghost use Rattle.pn_record.specs.Reading.{image_at};
-ghost use Rattle.pn_record.specs.Canonical.{is_image, IsImageLine};
+ghost use Rattle.pn_record.specs.Reading.{image_at, is_image, IsImageLine};
 ghost use Rattle.pn_record.specs.Writing.{value_data, version_data, fields_data, content_data, image_data};
 
 use crate::content::Value as FieldValue;

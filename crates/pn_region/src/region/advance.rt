@@ -2,7 +2,7 @@
 
 ghost use Rattle.std.specs.Prelude.{◌≡◌, Ok, IfErr, OnOk, OnErr};
 ghost use Rattle.pn_tablet.specs.Prelude.{Refuses};
-ghost use Rattle.pn_region.specs.Advancing.{after_advance, is_memory};
+ghost use Rattle.pn_region.specs.Recovery.{after_advance, is_no_advance as is_memory};
 
 use super::Region;
 use crate::{AdvanceFault, common_marks};

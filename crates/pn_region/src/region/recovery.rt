@@ -2,11 +2,11 @@
 
 ghost use Rattle.std.specs.Prelude.{◌≡◌, ◌≤◌, length, slice_get, Ok, Err, IfOk, IfErr, OnOk, OnErr, IsSomeAnd};
 ghost use Rattle.std.specs.List.{position};
-ghost use Rattle.pn_tablet.specs.Copying.{is_memory as is_no_copy_memory};
+ghost use Rattle.pn_tablet.specs.Copies.{is_memory as is_no_copy_memory};
 ghost use Rattle.pn_tablet.specs.Prelude.{copy_of, Answers, Refuses, same_range};
 ghost use Rattle.pn_tablet.specs.Steps.{is_memory};
 ghost use Rattle.pn_tablet.specs.declared.fault.CopyFault.TheVariants.{NoEntry};
-ghost use Rattle.pn_region.specs.Logged.{with_break};
+ghost use Rattle.pn_region.specs.Log.{with_break};
 ghost use Rattle.pn_region.specs.Recovery.{after_loss, after_adoption};
 
 use super::Region;

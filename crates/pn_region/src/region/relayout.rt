@@ -7,10 +7,10 @@ ghost use Rattle.pn_join.specs.Prelude.{Reaches, are_positions, raised_marks};
 ghost use Rattle.pn_record.specs.Prelude.{bytes_cmp};
 ghost use Rattle.pn_tablet.specs.Prelude.{in_range, lie_in, meet, Refuses};
 ghost use Rattle.pn_apply.specs.Prelude.{ranges};
-ghost use Rattle.pn_region.specs.Relayouts.{after_relayout, made_of, parts_of, least_cover};
-ghost use Rattle.pn_region.specs.Relayouts.{greatest_reach, first_recovering as first_that_recovers, is_recovering, is_memory};
+ghost use Rattle.pn_region.specs.Recovery.{after_relayout, made_of, parts_of, least_cover, greatest_reach, first_recovering as first_that_recovers};
+ghost use Rattle.pn_region.specs.Recovery.{is_recovering, is_memory};
 
-use super::{Region, range_of};
+use super::Region;
 use crate::RelayoutFault;
 use crate::advancing::least_with;
 use pn_join::{Marks, NoMemory, raise};
@@ -69,7 +69,7 @@ fn build_tablets(
 {
     let mut made = Vec::with_capacity(alloc, layout.count())?;
     for tablet in 0..layout.count() {
-        made.push_reserved(build_tablet(alloc, tablets, range_of(layout, tablet)?)?);
+        made.push_reserved(build_tablet(alloc, tablets, layout.range_of(tablet)?)?);
     }
     Ok(made)
 }
@@ -111,7 +111,7 @@ fn is_part(tablet: &TabletState, range: &Range) -> bool
 }
 
 // The cells, and after them those of the tablet in the range.
-#[tactic(auto, using(crate::proofs::Cutting::whole_slice))]
+#[tactic(auto, using(crate::proofs::Pieces::whole_slice))]
 fn with_cells(cells: Records, tablet: &TabletState, range: &Range) -> Result<Records, NoMemory>
     requires { IsTrue (is_sorted bytes_cmp (cells ++ filter (λ entry. in_range range.now entry.0) tablet.now.cells)) }
     ensures { IfOk result (λ both. both ≡ cells ++ filter (λ entry. in_range range.now entry.0) tablet.now.cells) }

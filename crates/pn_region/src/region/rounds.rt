@@ -1,22 +1,78 @@
-//! Rounds of a region.
+//! Rounds of a region, and its parts.
 
-ghost use Rattle.std.specs.Prelude.{◌≡◌, ◌≤◌, List, Ok, IsOk, IfOk, IfErr, OnOk, OnErr};
-ghost use Rattle.pn_apply.specs.Prelude.{IsSomeOld};
+ghost use Rattle.std.specs.Prelude.{◌≡◌, ◌≤◌, length, IsTrue, List, Ok, IsOk, IfOk, IfErr, OnOk, OnErr};
+ghost use Rattle.std.specs.List.{AllByRecursion};
+ghost use Rattle.pn_join.specs.Prelude.{are_positions};
+ghost use Rattle.pn_tablet.specs.Prelude.{IsLayout, Refuses};
+ghost use Rattle.pn_apply.specs.Prelude.{ranges, IsSomeOld};
+ghost use Rattle.pn_region.specs.declared.marking.TheConstants.{MAX_STREAMS};
+ghost use Rattle.pn_region.specs.Regions.{ArePartsOf, IsSound};
 ghost use Rattle.pn_apply.specs.declared.reducing.TheConstants.{MAX_WORKERS};
-ghost use Rattle.pn_region.specs.Logged.{with_notices, refused_log};
-ghost use Rattle.pn_region.specs.Marking.{is_memory};
-ghost use Rattle.pn_region.specs.Rounds.{round, changed_count, Leaves};
+ghost use Rattle.pn_region.specs.Log.{with_notices, refused_log};
+ghost use Rattle.pn_region.specs.Rounds.{is_memory, round, changed_count, Leaves};
 ghost use Rattle.pn_stream.specs.Prelude.{DeliveryValue};
-ghost use Rattle.pn_tablet.specs.Prelude.{Refuses};
 
-use super::{Region, Round, count_changes};
-use crate::{RoundFault, check_marks};
-use pn_apply::{Gate, Share, shares_of};
-use pn_join::NoMemory;
+use crate::region::{Region, Round, count_changes};
+use crate::{Log, RoundFault, check_marks};
+use pn_apply::{Gate, shares_of};
+use pn_join::Marks;
 use pn_stream::Delivery;
+use pn_tablet::{Layout, TabletState};
 use std::alloc::Global;
 use std::marker::Sync;
 use std::thread::Threads;
+
+impl Region {
+    /// The region of these parts. There is one tablet for each range of the layout, in order, whose cover
+    /// reaches the marks.
+    ///
+    /// The marks name at most 16 streams, at positions of 1 to 10^15.
+    pub fn of_parts(
+        alloc: Global,
+        layout: Layout,
+        tablets: Vec<TabletState>,
+        marks: Marks,
+        log: Log,
+    ) -> Region
+        requires tablets { ArePartsOf marks (ranges layout) tablets.items }
+        requires few { length marks ≤ MAX_STREAMS }
+        requires positions { IsTrue (are_positions marks) }
+        ensures layout { result.state.layout ≡ layout }
+        ensures tablets { result.state.tablets ≡ tablets.items }
+        ensures marks { result.state.marks ≡ marks }
+        ensures log { result.log ≡ log }
+    {
+        recall_all(&layout, &tablets);
+        Region {
+            layout,
+            tablets,
+            marks,
+            log,
+            alloc,
+        }
+    }
+}
+
+// Recalls for the prover that a layout is lawful and tablets are sound.
+fn recall_all(layout: &Layout, tablets: &[TabletState])
+    ensures lawful { IsLayout layout.now }
+    ensures sound { AllByRecursion IsSound tablets.now }
+{
+    layout.recall_order();
+    for tablet in tablets {
+        recall_soundness(tablet);
+    }
+}
+
+/// Recalls for the prover that a tablet is sound: its keys lie in its range, its cells are those of images, and its
+/// reach reaches its cover.
+pub fn recall_soundness(tablet: &TabletState)
+    ensures { IsSound tablet.now }
+{
+    let _ = tablet.range();
+    let _ = tablet.cells();
+    let _ = tablet.reach();
+}
 
 impl Region {
     /// Takes deliveries, in order, by 1 to 16 workers, each of which enters the gate before each of its tablets.
@@ -40,12 +96,21 @@ impl Region {
         ensures broken { IfErr result (λ fault. self.new.log ≡ refused_log self.old.log fault) }
     {
         self.check(&deliveries)?;
-        match shares_of(self.alloc(), deliveries) {
-            Ok(shares) => self.join_shares(rt, &shares, workers, gate),
-            Err(NoMemory) => {
-                self.break_off();
+        let Ok(shares) = shares_of(self.alloc(), deliveries) else {
+            self.break_off();
+            return Err(RoundFault::Memory);
+        };
+        match self.take_round(rt, &shares, workers, gate) {
+            Ok(lists) => {
+                let changed = count_changes(&lists) as u64;
+                self.log.add(lists);
+                Ok(Round { changed })
+            }
+            Err(RoundFault::Memory) => {
+                self.log.cut();
                 Err(RoundFault::Memory)
             }
+            Err(fault) => Err(fault),
         }
     }
 
@@ -72,36 +137,5 @@ impl Region {
         ensures err { (deliveries : List DeliveryValue) → Leaves RoundFault.Memory self.old.state deliveries self.new.state }
     {
         self.log.cut();
-    }
-
-    // Takes what deliveries bring, as `round` takes deliveries.
-    fn join_shares<R: Threads + Sync, G: Gate + Sync>(
-        &mut self,
-        rt: &R,
-        shares: &[Share],
-        workers: usize,
-        gate: &G,
-    ) -> Result<Round, RoundFault>
-        requires workers { (1 ≤ workers) × (workers ≤ MAX_WORKERS) }
-        ensures ok { OnOk result (round self.old.state shares.now ≡ Ok self.new.state) }
-        ensures changed { IfOk result (λ done. done.changed ≡ changed_count self.old.state self.new.state) }
-        ensures noted { OnOk result (self.new.log ≡ with_notices self.old.log self.old.state self.new.state) }
-        ensures refused { IfErr result (λ fault. Refuses is_memory fault (round self.old.state shares.now)) }
-        ensures err { IfErr result (λ fault. Leaves fault self.old.state shares.now self.new.state) }
-        ensures left { OnErr result (IsSomeOld self.old.state.tablets self.new.state.tablets) }
-        ensures broken { IfErr result (λ fault. self.new.log ≡ refused_log self.old.log fault) }
-    {
-        match self.take(rt, shares, workers, gate) {
-            Ok(lists) => {
-                let changed = count_changes(&lists) as u64;
-                self.log.add(lists);
-                Ok(Round { changed })
-            }
-            Err(RoundFault::Memory) => {
-                self.log.cut();
-                Err(RoundFault::Memory)
-            }
-            Err(fault) => Err(fault),
-        }
     }
 }

@@ -1,30 +1,32 @@
--- What the writer of a live region does for control sessions.
+-- What the writer of a live region does for control sessions, and what it answers.
 use Rattle.std.specs.Prelude.{◌≡◌, ◌⊎◌, ℕ, Bool, true, false, if◌then◌else◌, List, ◌∷◌, Option, None, Some, Result, Ok, Err}
-use Rattle.pn_json.specs.Lines.{line_of}
-use Rattle.pn_region.specs.Advancing.{after_advance}
-use Rattle.pn_region.specs.Events as events
+use Rattle.pn_json.specs.Tokens.{line_of}
+use Rattle.pn_region.specs.Recovery.{after_advance, after_adoption}
 use Rattle.pn_region.specs.Events.{RegionEvent}
-use Rattle.pn_region.specs.Logged.{LoggedRegion}
-use Rattle.pn_region.specs.Recovery.{after_adoption}
+use Rattle.pn_region.specs.Log.{LoggedRegion}
 use Rattle.pn_region.specs.Regions.{RegionValue}
 use Rattle.pn_region.specs.declared.fault.AdvanceFault.{AdvanceFault}
-use Rattle.pn_live.specs.Events.{LeadsLive}
-use Rattle.pn_live.specs.LiveRegions.{LiveRegionValue, core}
-use Rattle.pn_protocol.specs.Command.Meaning as command
+use Rattle.pn_region.specs.Events as events
 use Rattle.pn_protocol.specs.Reply.Faults.{advance_fault_data}
-use Rattle.pn_protocol.specs.Reply.Notices.{found_since}
-use Rattle.pn_protocol.specs.Reply.Tablets.{marks_reply_data}
+use Rattle.pn_protocol.specs.Reply.Records.{found_since}
+use Rattle.pn_protocol.specs.Reply.Short.{marks_reply_data}
 use Rattle.pn_protocol.specs.Reply.Texts.{is_refusal, reply_text}
 use Rattle.pn_protocol.specs.declared.reply.Reply.{Reply}
 use Rattle.pn_protocol.specs.declared.reply.Reply.TheVariants.{Refused}
 use Rattle.pn_protocol.specs.declared.refusal.Refusal.TheVariants.{Memory}
-use Rattle.pn_serve.specs.Machine.Doing.{plain_turn}
+use Rattle.pn_protocol.specs.Command.Controls.{control_at, stop}
+use Rattle.pn_protocol.specs.Command.Meaning as command
+use Rattle.pn_live.specs.LiveRegions.{LeadsLive, LiveRegionValue, core}
+use Rattle.pn_serve.specs.Machine.Doing.{plain_turn, adoption_turn}
 use Rattle.pn_serve.specs.Machine.Outcomes.{Turn, machine_over}
-use Rattle.pn_serve.specs.Machine.Recovering.{adoption_turn}
 use Rattle.pn_serve.specs.declared.control.commands.WriterAnswer.{WriterAnswer}
-use Rattle.pn_serve.specs.declared.control.commands.WriterAnswer.TheVariants as answers
 use Rattle.pn_serve.specs.declared.control.commands.WriterCommand.{WriterCommand}
+use Rattle.pn_serve.specs.declared.control.answers.Question.{Question}
+use Rattle.pn_serve.specs.declared.control.commands.WriterAnswer.TheVariants as answers
 use Rattle.pn_serve.specs.declared.control.commands.WriterCommand.TheVariants as commands
+use Rattle.pn_serve.specs.declared.control.answers.Question.TheVariants as question
+
+-- What the writer of a live region does for control sessions.
 
 -- what an answer says: the bytes of the reply, and whether that is a refusal
 pub record Said : Type 0 where
@@ -88,3 +90,37 @@ IsAfter (Some event) old new = LeadsLive event old new
 pub record ObeysLive (old : LiveRegionValue) (asked : WriterCommand) (new : LiveRegionValue) (said : Said) : Type 0 where
   pub replied : (said ≡ said_by (Refused Memory)) ⊎ (asked_turn (logged old) asked ≡ turn_to (logged new) said)
   pub left : IsAfter (event_by asked said) old new
+
+-- Answers of the writer, each with what it answers.
+
+-- what the writer is asked for; of an adoption the copy is left out
+abbrev pub question_of : WriterCommand → Question
+question_of (commands.Adopt copy) = question.Adopt
+question_of commands.Advance = question.Advance
+question_of (commands.Lose tablet) = question.Lose tablet
+question_of commands.Marks = question.Marks
+question_of (commands.Notices since) = question.Notices since
+question_of commands.Tablets = question.Tablets
+
+-- the writer did what this asks for over the live region as it was then, and said so; it adopted some copy
+pub record Gives (question : Question) (said : Said) : Type 0 where
+  pub told : WriterCommand
+  pub is : question_of told ≡ question
+  pub old : LiveRegionValue
+  pub new : LiveRegionValue
+  pub obeyed : ObeysLive old told new said
+
+-- the writer did what this asks for at some time, and said so
+abbrev pub IsGiven : Question → Said → Type 0
+IsGiven question said = ∥ Gives question said ∥₁
+
+-- A stop that a client asked for.
+
+-- a line says `stop`, within this number of seconds
+pub record SaysStop (seconds : ℕ) : Type 0 where
+  pub line : List ℕ
+  pub says : control_at line ≡ Ok (stop seconds)
+
+-- some line said so
+abbrev pub IsSaid : ℕ → Type 0
+IsSaid seconds = ∥ SaysStop seconds ∥₁

@@ -1,16 +1,19 @@
--- What a line of a control session comes to, by its reader and by what the writer answers.
-use Rattle.std.specs.Prelude.{◌≡◌, ◌⊎◌, ℕ, false, List, [], Option, None, Some, Result, Ok, Err, Vec}
+-- What a line of a control session comes to, by its reader, which counts records, and by what the writer answers.
+use Rattle.std.specs.Prelude.{◌≡◌, ◌+◌, ℕ, suc, List, [], ◌∷◌, length, Option, Some, None, Result, Ok, Err, Vec, ◌⊎◌, false}
 use Rattle.std.specs.declared.alloc.Global.{Global}
-use Rattle.pn_json.specs.Lines.{line_of}
+use Rattle.pn_json.specs.Tokens.{line_of}
+use Rattle.pn_tablet.specs.Tablets.{TabletStateValue}
+use Rattle.pn_tablet.specs.declared.counted_cells.RecordCounts.{RecordCounts}
 use Rattle.pn_tablet.specs.Copies.{TabletCopyValue}
 use Rattle.pn_tablet.specs.CopyReading.{copy_at}
 use Rattle.pn_tablet.specs.declared.fault.CopyTextFault.{CopyTextFault}
-use Rattle.pn_scan.specs.declared.fault.ScanFault.{ScanFault}
-use Rattle.pn_live.specs.Readers.{LiveReaderValue}
+use Rattle.pn_scan.specs.declared.view.ScanFault.{ScanFault}
+use Rattle.pn_scan.specs.declared.view.ScanFault.TheVariants.{Memory as NoMemory, NoEntry}
+use Rattle.pn_scan.specs.Paging.{Stays}
+use Rattle.pn_protocol.specs.declared.reply.stats.TabletStats.{TabletStats}
 use Rattle.pn_protocol.specs.Command.Controls.{ControlValue, control_at, script, notices, advance, stats, stop}
 use Rattle.pn_protocol.specs.Command.Lines.{is_too_long}
-use Rattle.pn_protocol.specs.Command.Meaning as command
-use Rattle.pn_protocol.specs.Reply.Refusals.{Refuses}
+use Rattle.pn_protocol.specs.Reply.Faults.{Refuses}
 use Rattle.pn_protocol.specs.Reply.Stats.{stats_data}
 use Rattle.pn_protocol.specs.declared.refusal.Refusal.{Refusal}
 use Rattle.pn_protocol.specs.declared.refusal.Refusal.TheVariants.{Memory}
@@ -18,18 +21,46 @@ use Rattle.pn_protocol.specs.declared.reply.Reply.{Reply}
 use Rattle.pn_protocol.specs.declared.reply.Reply.TheVariants.{Refused}
 use Rattle.pn_protocol.specs.declared.reply.refusals.CommandFault.TheVariants.{CopyText, Lookup}
 use Rattle.pn_protocol.specs.declared.reply.stats.Stats.{Stats}
-use Rattle.pn_protocol.specs.declared.reply.stats.TabletStats.{TabletStats}
-use Rattle.pn_serve.specs.Control.Answers.{IsGiven, question_of}
-use Rattle.pn_serve.specs.Control.Commands.{Said, said_by}
-use Rattle.pn_serve.specs.Control.TabletCounts.{CountsTablets}
-use Rattle.pn_scan.specs.Paging.{Stays}
+use Rattle.pn_protocol.specs.Command.Meaning as command
+use Rattle.pn_live.specs.Lookups.{IsCounted}
+use Rattle.pn_live.specs.Readers.{LiveReaderValue}
+use Rattle.pn_serve.specs.Control.Commands.{IsGiven, question_of, Said, said_by}
 use Rattle.pn_serve.specs.Session.Lines.{LooksUp}
 use Rattle.pn_serve.specs.declared.control.commands.WriterCommand.{WriterCommand}
-use Rattle.pn_serve.specs.declared.control.commands.WriterCommand.TheVariants as commands
 use Rattle.pn_serve.specs.declared.control.steps.ControlStep.{ControlStep}
 use Rattle.pn_serve.specs.declared.control.steps.ControlStep.TheVariants.{Replies, Announces, Stops, Ends}
 use Rattle.pn_serve.specs.declared.control.steps.ScriptTask.{ScriptTask}
+use Rattle.pn_serve.specs.declared.control.commands.WriterCommand.TheVariants as commands
 use Rattle.pn_serve.specs.declared.control.steps.ScriptTask.TheVariants as task
+
+-- The records of tablets, as the reader of a control session counts them.
+
+-- the counts of a tablet as they are shown
+abbrev pub stats_of : RecordCounts → TabletStats
+stats_of counts = record { records = counts.records; deleted = counts.deleted }
+
+-- the tablets from this one on were counted, each by one look
+abbrev pub AreCounted : LiveReaderValue → ℕ → List TabletStats → LiveReaderValue → Type 0
+AreCounted old tablet [] new = new ≡ old
+AreCounted old tablet (shown ∷ more) new =
+    (between : LiveReaderValue) × (counts : RecordCounts) × (found : Option TabletStateValue) × IsCounted old between (Some counts) (tablet, found) × (shown ≡ stats_of counts) × AreCounted between (suc tablet) more new
+
+-- some tablets were counted, and the look into the next one was refused
+pub record EndsRefused (old new : LiveReaderValue) : Type 0 where
+  pub before : List TabletStats
+  pub between : LiveReaderValue
+  pub found : Option TabletStateValue
+  pub counted : AreCounted old 0 before between
+  pub refused : IsCounted between new None (length before, found)
+
+-- all tablets were counted in their order, or one could not be entered, or memory ran out before
+abbrev pub CountsTablets : LiveReaderValue → LiveReaderValue → Result (Vec TabletStats Global) ScanFault → Type 0
+CountsTablets old new (Ok shown) = AreCounted old 0 shown.items new × (length shown.items ≡ length old.layout + 1)
+CountsTablets old new (Err NoEntry) = EndsRefused old new
+CountsTablets old new (Err NoMemory) = new ≡ old
+CountsTablets old new (Err why) = ⊥
+
+-- What a line of a control session comes to, by its reader and by what the writer answers.
 
 -- the line came to a reply of which this holds
 abbrev pub RepliesWith : (Reply → Type 0) → ControlStep → Type 0

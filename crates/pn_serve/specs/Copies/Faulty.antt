@@ -7,7 +7,7 @@ use Rattle.pn_tablet.specs.CopyReading.{copy_at}
 use Rattle.pn_tablet.specs.declared.fault.CopyTextFault.{CopyTextFault}
 use Rattle.pn_tablet.specs.declared.fault.CopyTextFault.TheVariants.{Truncated, BadLine, OutsideRange, NotRising, BadEnd, Memory}
 use Rattle.pn_serve.specs.Copies.Cutting.{CopyCutValue, IsCut, IsLineThat, TextLeft}
-use Rattle.pn_serve.specs.declared.copies.fronts.TheConstants.{FIRST_BYTES, PART}
+use Rattle.pn_serve.specs.declared.copies.reading.TheConstants.{FIRST_BYTES, PART}
 use Rattle.pn_serve.specs.declared.copies.texts.NextText.{NextText}
 use Rattle.pn_serve.specs.declared.copies.texts.NextText.TheVariants.{Whole, Faulty, Nothing}
 

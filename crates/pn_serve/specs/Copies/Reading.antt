@@ -1,14 +1,22 @@
 -- The copies of a text in which they stand one after another, or why it has none.
-use Rattle.std.specs.Prelude.{◌≡◌, ℕ, ◌+◌, ◌-◌, ◌<◌, ◌≤◌, if◌then◌else◌, List, [], ◌∷◌, ◌++◌, ◌⊎◌, length, map, Option, Some, Result, Ok, Err}
+use Rattle.std.specs.Prelude.{◌≡◌, ℕ, List, ◌+◌, ◌-◌, ◌<◌, ◌≤◌, if◌then◌else◌, [], ◌∷◌, ◌++◌, ◌⊎◌, length, map, Option, Some, Result, Ok, Err}
+use Rattle.serde_json.specs.Data.{Members}
 use Rattle.pn_json.specs.Answers.{IsUnless}
+use Rattle.pn_tablet.specs.declared.fault.CopyTextFault.{CopyTextFault}
 use Rattle.pn_tablet.specs.Copies.{TabletCopyValue}
 use Rattle.pn_tablet.specs.CopyReading.{copy_at}
-use Rattle.pn_tablet.specs.declared.fault.CopyTextFault.{CopyTextFault}
-use Rattle.pn_tablet.specs.declared.fault.CopyTextFault.TheVariants as text_fault
 use Rattle.pn_tablet.specs.declared.layout.TheConstants.{MAX_BOUNDS}
+use Rattle.pn_tablet.specs.declared.fault.CopyTextFault.TheVariants as text_fault
+use Rattle.pn_protocol.specs.Reply.Faults.{error_data, copy_text_fault_data}
 use Rattle.pn_serve.specs.Copies.Cutting.{AreCuts, CopyCutValue, IsCut, TextLeft, line_number}
 use Rattle.pn_serve.specs.declared.copies.fault.CopiesFault.{CopiesFault}
 use Rattle.pn_serve.specs.declared.copies.fault.CopiesFault.TheVariants.{Line, Memory, Read, TooMany}
+
+-- The words of faults of copies.
+
+-- the word is the error of the reply to a text with this fault
+abbrev pub IsErrorOf : CopyTextFault → List ℕ → Type 0
+IsErrorOf fault word = (details : Members) × (copy_text_fault_data fault ≡ error_data word details)
 
 -- the fault of a copy's text, with its line in the whole text: a copy is truncated at the line that it lacks, has a bad end in
 -- its last line, and a bad line where that is too long

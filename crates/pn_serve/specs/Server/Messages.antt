@@ -1,7 +1,7 @@
 -- Messages for a round.
 use Rattle.std.specs.Prelude.{◌≤◌, length}
-use Rattle.pn_stream.specs.Positions.{DeliveryValue}
-use Rattle.pn_serve.specs.declared.server.messages.TheConstants.{MAX_MESSAGES}
+use Rattle.pn_stream.specs.Brokers.{DeliveryValue}
+use Rattle.pn_stream.specs.declared.reader.TheConstants.{MAX_MESSAGES}
 
 -- 1 to 1,000 messages of a stream
 abbrev pub FitRound : DeliveryValue → Type 0

@@ -1,15 +1,15 @@
 -- How serving ends.
 use Rattle.std.specs.Prelude.{◌≡◌, ◌⊎◌, ℕ, List, All, Contains, Option, Result, Ok, Err}
 use Rattle.pn_stream.specs.Batches.{Stream}
-use Rattle.pn_stream.specs.Positions.{DeliveryValue}
+use Rattle.pn_stream.specs.Brokers.{DeliveryValue}
 use Rattle.pn_tablet.specs.Layouts.{Bounds}
 use Rattle.pn_live.specs.LiveRegions.{LiveRegionValue, IsNewLive}
-use Rattle.pn_serve.specs.Server.Faults.{names_of}
-use Rattle.pn_serve.specs.Server.Reading.{ReadToEnds, ReadUpTo}
-use Rattle.pn_serve.specs.Server.Whole.{IsTakenWhole}
-use Rattle.pn_serve.specs.declared.server.fault.ServeFault.{ServeFault}
+use Rattle.pn_serve.specs.Server.Reports.{names_of}
+use Rattle.pn_serve.specs.Server.Events.{ReadToEnds, ReadUpTo}
+use Rattle.pn_serve.specs.Server.Publishers.{IsTakenWhole}
+use Rattle.pn_serve.specs.declared.server.fault_log.ServeFault.{ServeFault}
 use Rattle.pn_serve.specs.declared.server.mailboxes.AtFault.TheVariants.{Stop}
-use Rattle.pn_serve.specs.declared.server.fault.ServeFault.TheVariants.{Start, Stream as of_stream, Round, Close, Write}
+use Rattle.pn_serve.specs.declared.server.fault_log.ServeFault.TheVariants.{Start, Stream as of_stream, Round, Close, Write}
 
 -- where all deliveries are such
 module _ (P : DeliveryValue → Type 0) {S : Type 0} (left : S → Option (List ℕ)) where
@@ -29,25 +29,24 @@ module _ (P : DeliveryValue → Type 0) {S : Type 0} (left : S → Option (List 
   EndsReading streams old new (Err Close) = ⊥
   EndsReading streams old new (Err Write) = ⊥
 
-  -- a new live region of the layout came to this by reading
-  pub record Serves (layout : Bounds) (streams : List (Stream S)) (reading : Result (Unit {0}) ServeFault) : Type 0 where
-    pub opened : LiveRegionValue
+  -- a live region that is open came to another by reading
+  pub record Serves (opened : LiveRegionValue) (streams : List (Stream S)) (reading : Result (Unit {0}) ServeFault) : Type 0 where
     pub closed : LiveRegionValue
-    pub is_new : IsNewLive layout opened
     pub ends : EndsReading streams opened closed reading
 
-  -- what serving over a new live region comes to: out of memory while closing it comes only after all streams are taken
-  abbrev pub EndsRegion : Bounds → List (Stream S) → Result ℕ ServeFault → Type 0
-  EndsRegion layout streams (Ok count) = Serves layout streams (Ok tt)
-  EndsRegion layout streams (Err Close) = Serves layout streams (Ok tt)
-  EndsRegion layout streams (Err Start) = Unit {0}
-  EndsRegion layout streams (Err Write) = ⊥
-  EndsRegion layout streams (Err fault) = Serves layout streams (Err fault)
-
   -- what serving comes to: out of memory while closing, and a write fault, come only after all streams are taken
-  abbrev pub EndsServing : Bounds → List (Stream S) → Result (Unit {0}) ServeFault → Type 0
-  EndsServing layout streams (Ok done) = Serves layout streams (Ok tt)
-  EndsServing layout streams (Err Close) = Serves layout streams (Ok tt)
-  EndsServing layout streams (Err Write) = Serves layout streams (Ok tt)
-  EndsServing layout streams (Err Start) = Unit {0}
-  EndsServing layout streams (Err fault) = Serves layout streams (Err fault)
+  abbrev pub EndsServing : LiveRegionValue → List (Stream S) → Result (Unit {0}) ServeFault → Type 0
+  EndsServing opened streams (Ok done) = Serves opened streams (Ok tt)
+  EndsServing opened streams (Err Close) = Serves opened streams (Ok tt)
+  EndsServing opened streams (Err Write) = Serves opened streams (Ok tt)
+  EndsServing opened streams (Err fault) = Serves opened streams (Err fault)
+
+  -- a new live region of a layout was served
+  pub record ServesNew (layout : Bounds) (streams : List (Stream S)) (result : Result (Unit {0}) ServeFault) : Type 0 where
+    pub opened : LiveRegionValue
+    pub is_new : IsNewLive layout opened
+    pub ends : EndsServing opened streams result
+
+  -- what serving a new live region comes to: it was served, or none could be opened
+  abbrev pub EndsServingNew : Bounds → List (Stream S) → Result (Unit {0}) ServeFault → Type 0
+  EndsServingNew layout streams result = ServesNew layout streams result ⊎ (result ≡ Err Start)

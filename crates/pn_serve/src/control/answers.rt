@@ -2,8 +2,7 @@
 
 ghost use Rattle.std.specs.Prelude.{◌≡◌, IfSome};
 ghost use Rattle.pn_live.specs.Prelude.{tablets_in};
-ghost use Rattle.pn_serve.specs.Control.Answers.{IsGiven, question_of};
-ghost use Rattle.pn_serve.specs.Control.Commands.{ObeysLive, answer_of};
+ghost use Rattle.pn_serve.specs.Control.Commands.{IsGiven, question_of, ObeysLive, answer_of};
 
 use crate::control::commands::{WriterAnswer, WriterCommand, obey};
 use pn_live::LiveRegion;

@@ -1,7 +1,7 @@
 //! What the writer of a live region does for control sessions.
 
 ghost use Rattle.std.specs.Prelude.{◌≡◌, ◌+◌, length, Ok};
-ghost use Rattle.pn_region.specs.Advancing.{after_advance, with_marks};
+ghost use Rattle.pn_region.specs.Recovery.{after_advance, with_marks};
 ghost use Rattle.pn_live.specs.LiveRegions.{core};
 ghost use Rattle.pn_live.specs.Prelude.{tablets_in};
 ghost use Rattle.pn_serve.specs.Control.Commands.{ObeysLive, answer_of, said_by};
@@ -10,7 +10,7 @@ ghost use Rattle.pn_serve.specs.declared.control.commands.WriterCommand.TheVaria
 use pn_join::Marks;
 use pn_live::LiveRegion;
 use pn_protocol::{
-    CommandFault, Part, Refusal, Reply, ShownTablets, answer_text, marks_reply, refuse,
+    CommandFault, MemberName, Refusal, Reply, ShownTablets, answer_text, marks_reply, refuse,
     tablets_reply,
 };
 use pn_region::{AdoptFault, Since};
@@ -134,7 +134,7 @@ fn lose<R: Wait>(rt: &R, live: &mut LiveRegion, tablet: u64) -> Reply
     ensures same { tablets_in live.new ≡ tablets_in live.old }
 {
     if tablet >= live.layout().count() as u64 {
-        return Reply::Refused(Refusal::OutOfRange(Part::Tablet));
+        return Reply::Refused(Refusal::OutOfRange(MemberName::Tablet));
     }
     match live.lose(rt, tablet as usize) {
         Ok(_front) => Reply::Lost(tablet),

@@ -3,16 +3,16 @@
 ghost use Rattle.std.specs.Prelude.{◌≡◌, ℕ, List, option_map};
 ghost use Rattle.pn_line.specs.Prelude.{kept_bytes};
 ghost use Rattle.pn_serve.specs.Control.Lines.{AnswersControl, EndsControl, after_step, at_rest, is_closed, reply_of};
-ghost use Rattle.pn_serve.specs.Lines.Handled.{by_end};
-ghost use Rattle.pn_serve.specs.Session.Knowing.{KnowsNoLess};
+ghost use Rattle.pn_serve.specs.Lines.{by_end};
+ghost use Rattle.pn_serve.specs.Session.Resuming.{KnowsNoLess};
 
 use crate::control::session::{ControlSession, StatsSource};
 use crate::control::steps::ControlStep;
 use crate::control::stop::StopSaid;
 use crate::machine::adoption::{AnnouncedText, GatherOutcome};
-use crate::machine::line_answers::{Answer, ReplyPieces, answered};
-use crate::sessions::going::Going;
-use pn_lines::{Answered, EndedBy, LineHandler};
+use crate::machine::line_answers::{LineAnswer, LineOutcome, ReplyPieces, answered};
+use crate::sessions::pending_lookup::PendingLookup;
+use pn_lines::{EndedBy, LineHandler};
 use pn_live::LiveReader;
 use pn_protocol::Reply;
 use std::alloc::Global;
@@ -38,11 +38,11 @@ pub(crate) struct ControlHandler<'a, R, C: Drop> {
 impl<'a, R, C: Drop> Model for ControlHandler<'a, R, C> {
     ghost use Rattle.std.specs.Prelude.{option_map};
     ghost use Rattle.pn_serve.specs.Control.Lines.{ControlState};
-    ghost use Rattle.pn_serve.specs.Machine.Modes.{mode_of};
+    ghost use Rattle.pn_serve.specs.Machine.Outcomes.{mode_of};
 
     ghost Value = { ControlState };
 
-    ghost use Rattle.pn_serve.specs.Control.Coding.{control_code};
+    ghost use Rattle.pn_serve.specs.Proofs.{control_code};
 
     ghost coded = { control_code };
 
@@ -185,42 +185,32 @@ impl<'a, R: Threads + Wait + Clock, C: StatsSource + Drop> ControlHandler<'a, R,
 
 impl<'a, R: Threads + Wait + Clock, C: StatsSource + Drop> LineHandler
     for ControlHandler<'a, R, C> {
-    ghost use Rattle.pn_serve.specs.Control.Handling.{HasClosed, controls};
+    ghost use Rattle.pn_serve.specs.Control.Lines.{HasClosed, controls};
     ghost use Rattle.pn_serve.specs.Control.Lines.{AnswersControl, EndsControl, KeepsKnowing};
-    ghost use Rattle.pn_serve.specs.Lines.Handled.{Replies};
-    ghost use Rattle.pn_serve.specs.Proofs.Steady.{alone_steadily, controls_know};
-    ghost use Rattle.pn_serve.specs.Session.Looking.{going_left};
+    ghost use Rattle.pn_serve.specs.Lines.{Replies};
+    ghost use Rattle.pn_serve.specs.Proofs.{alone_steadily, controls_know};
+    ghost use Rattle.pn_serve.specs.Session.Resuming.{pending_left};
     ghost use Rattle.std.specs.Prelude.{⊤};
-
-    type Going = Going;
-
-    type Text = ReplyPieces;
 
     ghost ready = { ⊤ };
 
     ghost handling = { controls };
 
-    ghost left = { going_left };
+    ghost left = { pending_left };
 
     ghost keeps = { KeepsKnowing };
 
-    fn answer(
-        &mut self,
-        alloc: Global,
-        line: &[u8],
-        ended: EndedBy,
-    ) -> Answered<Going, ReplyPieces> {
-        answered(Answer::Done(self.reply_to(alloc, line, ended)), 1)
+    type Pending = PendingLookup;
+
+    type Text = ReplyPieces;
+
+    fn answer(&mut self, alloc: Global, line: &[u8], ended: EndedBy) -> LineAnswer {
+        answered(LineOutcome::Done(self.reply_to(alloc, line, ended)), 1)
     }
 
     // No line is resumed.
-    fn go_on(
-        &mut self,
-        _alloc: Global,
-        _going: Going,
-        _units: u32,
-    ) -> Answered<Going, ReplyPieces> {
-        answered(Answer::Done(Reply::Silent), 0)
+    fn go_on(&mut self, _alloc: Global, _pending: PendingLookup, _units: u32) -> LineAnswer {
+        answered(LineOutcome::Done(Reply::Silent), 0)
     }
 
     fn is_closed(&self) -> bool {

@@ -2,8 +2,7 @@
 
 ghost use Rattle.std.specs.Prelude.{◌≡◌, ℕ, List, Option, length, IfOk, IfSome};
 ghost use Rattle.pn_live.specs.Prelude.{tablets_in};
-ghost use Rattle.pn_serve.specs.Control.Answers.{IsGiven, question_of};
-ghost use Rattle.pn_serve.specs.Control.Commands.{answer_of};
+ghost use Rattle.pn_serve.specs.Control.Commands.{IsGiven, question_of, answer_of};
 ghost use Rattle.pn_serve.specs.Server.Events.{ToldAll};
 ghost use Rattle.pn_serve.specs.Server.Rounds.{RoundInputValue};
 ghost use Rattle.pn_serve.specs.declared.server.mailboxes.AtFault.{AtFault};
@@ -14,15 +13,20 @@ use crate::control::held_command::HeldCommand;
 use crate::control::log_watch::LogWatch;
 use crate::control::stop::{StopRequest, StopSaid, StopTime};
 use crate::server::mailboxes::{StreamMailbox, show_marks};
-use crate::server::texts::Sending;
+use crate::server::publishers::Sending;
 use crate::server::wakeup::Wakeup;
 use pn_live::LiveRegion;
 use std::alloc::{AllocError, Global};
 use std::sync::{Arc, Condvar, Mutex, Wait};
 use std::time::{Clock, Instant};
 
-/// The most control sessions at once.
-pub const MAX_CONTROLS: usize = 16;
+/// Shows that a line asked for a stop, and that commands are still taken.
+#[derive(Drop)]
+pub struct StopAsked(StopSaid);
+
+/// Shows that no command is taken any more, since a line asked for a stop.
+#[derive(Drop)]
+pub struct ControlsClosed(StopSaid);
 
 /// What control sessions and the writer share: a mailbox for each session, and what wakes the writer.
 #[derive(Drop)]
@@ -34,14 +38,6 @@ pub struct ControlMailboxes {
     // When it was made, if the clock said so.
     began: Option<Instant>,
 }
-
-/// Shows that a line asked for a stop, and that commands are still taken.
-#[derive(Drop)]
-pub struct StopAsked(StopSaid);
-
-/// Shows that no command is taken any more, since a line asked for a stop.
-#[derive(Drop)]
-pub struct ControlsClosed(StopSaid);
 
 /// Where a control session leaves its command, and where the writer leaves the answer.
 #[derive(Drop)]
@@ -138,7 +134,7 @@ impl ControlMailboxes {
     }
 
     /// Does one command of each session that asks, and notes the log. The marks of these streams are shown before a session is
-    /// answered, so that a writer that comes after the reply begins after them.
+    /// answered, so that a publisher that comes after the reply begins after them.
     pub(crate) fn obey_all<R: Wait, M: Sending>(
         &self,
         rt: &R,

@@ -1,10 +1,10 @@
 //! A control session: its lines are answered by its own reader, or by the writer between two rounds.
 
 ghost use Rattle.std.specs.Prelude.{◌≡◌, ◌≢◌, Err, IsErrOf, MatchBool};
-ghost use Rattle.pn_lines.specs.Ends.{start_at};
-ghost use Rattle.pn_serve.specs.Control.Ends.{AnswersClient, ControlEnds, control_start, uncounted};
-ghost use Rattle.pn_serve.specs.Lines.Waiting.{HandsOn};
-ghost use Rattle.pn_serve.specs.Session.Knowing.{KnowsNoLess};
+ghost use Rattle.pn_lines.specs.Driving.{start_at};
+ghost use Rattle.pn_serve.specs.Control.Lines.{AnswersClient, ControlEnds, control_start, uncounted};
+ghost use Rattle.pn_serve.specs.Lines.{Flushes};
+ghost use Rattle.pn_serve.specs.Session.Resuming.{KnowsNoLess};
 
 use crate::RunFault;
 use crate::control::handler::ControlHandler;
@@ -62,7 +62,7 @@ impl<C: StatsSource + Drop> ControlSession<C> {
         ensures write { IsErrOf result.1 RunFault.Write → W.may_fail }
         ensures memory { IsErrOf result.1 RunFault.Memory → ⊥ }
         ensures knows { KnowsNoLess reader result.0 }
-        ensures out { HandsOn result.1 (W.is_handed_on output.new) }
+        ensures out { Flushes result.1 (W.is_flushed output.new) }
     {
         let mut handler = ControlHandler::new(rt, self, reader);
         let ended = answer_lines(rt, &mut handler, buffers, input, output);
@@ -81,7 +81,7 @@ impl<C: StatsSource + Drop> ControlSession<C> {
         ended: &Result<(), RunFault>,
         output: &W,
     )
-        requires { HandsOn ended.now (W.is_handed_on output.now) }
+        requires { Flushes ended.now (W.is_flushed output.now) }
     {
         self.mailboxes.stop(rt, said);
     }
@@ -101,7 +101,7 @@ fn answer_lines<R: Threads + Wait + Clock, C: StatsSource + Drop, S: Source, W: 
     ensures write { IsErrOf result RunFault.Write → W.may_fail }
     ensures memory { IsErrOf result RunFault.Memory → ⊥ }
     ensures knows { KnowsNoLess handler.old.reader handler.new.reader }
-    ensures out { HandsOn result (W.is_handed_on output.new) }
+    ensures out { Flushes result (W.is_flushed output.new) }
 {
     for _ in rt.forever() {
         let ended = pn_lines::answer_lines(handler, buffers, MAX_LINES, input, output);

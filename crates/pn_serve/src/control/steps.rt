@@ -1,15 +1,15 @@
-//! What a line of a control session comes to: its reader looks up, and the writer is asked for the rest.
+//! What the reader of a control session does with a line.
 
 ghost use Rattle.std.specs.Prelude.{◌≡◌, Ok};
-ghost use Rattle.pn_protocol.specs.Prelude.{command_value, control_at, control_value};
-ghost use Rattle.pn_serve.specs.Control.Steps.{AdoptsText, Asks, ObeysControl, ObeysScript, task_of as task_for};
+ghost use Rattle.pn_live.specs.Prelude.{tablets_of};
+ghost use Rattle.pn_serve.specs.Control.Steps.{CountsTablets, stats_of as stats_shown, AdoptsText, Asks, ObeysControl, ObeysScript, task_of as task_for};
 ghost use Rattle.pn_serve.specs.Control.Steps.{RepliesWith, Reports, ShowsCounts, StepsBy, StepsLast};
-ghost use Rattle.pn_serve.specs.Machine.Modes.{bytes_of};
+ghost use Rattle.pn_protocol.specs.Prelude.{command_value, control_at, control_value};
+ghost use Rattle.pn_serve.specs.Machine.Outcomes.{bytes_of};
 
 use crate::control::commands::{WriterAnswer, WriterCommand};
 use crate::control::session::{ControlSession, StatsSource};
 use crate::control::stop::StopSaid;
-use crate::control::tablet_counts::count_tablets;
 use crate::machine::adoption::read_text_by;
 use crate::sessions::lookups::look_up;
 use pn_live::LiveReader;
@@ -17,10 +17,44 @@ use pn_protocol::{
     Command, CommandFault, ControlCommand, Refusal, Reply, TabletStats, answer_text, control_of,
     notices_reply, refuse, stats_reply,
 };
+use pn_scan::{ScanFault, View};
+use pn_tablet::RecordCounts;
 use std::alloc::Global;
 use std::sync::Wait;
 use std::thread::Threads;
 use std::time::Clock;
+
+/// The counts of the tablets in their order, each found by one entry.
+///
+/// `NoEntry`: an entry is refused, which ends the call. `Memory` comes only before the first entry.
+pub(super) fn count_tablets(
+    alloc: Global,
+    reader: &mut LiveReader,
+) -> Result<Vec<TabletStats>, ScanFault>
+    ensures counts { CountsTablets reader.old reader.new result }
+    ensures same { tablets_of reader.new ≡ tablets_of reader.old }
+{
+    let count = reader.layout().count();
+    let Ok(mut stats) = Vec::with_capacity(alloc, count) else {
+        return Err(ScanFault::Memory);
+    };
+    for tablet in 0..count {
+        let Some(counts) = reader.counts(tablet) else {
+            return Err(ScanFault::NoEntry);
+        };
+        stats.push_reserved(stats_of(counts));
+    }
+    Ok(stats)
+}
+
+fn stats_of(counts: RecordCounts) -> TabletStats
+    ensures { result ≡ stats_shown counts }
+{
+    TabletStats {
+        records: counts.records as u64,
+        deleted: counts.deleted as u64,
+    }
+}
 
 /// What a line comes to.
 #[derive(Drop)]

@@ -3,7 +3,7 @@
 ghost use Rattle.std.specs.Prelude.{◌≡◌, ◌+◌, ◌*◌, ◌^◌, ◌-◌, ◌<◌, ◌≤◌, Ok, Some, IsSomeAnd, min, MatchBool, MatchOption};
 ghost use Rattle.pn_protocol.specs.Prelude.{control_at};
 ghost use Rattle.pn_protocol.specs.Command.Controls.{stop};
-ghost use Rattle.pn_serve.specs.Control.Stops.{IsSaid};
+ghost use Rattle.pn_serve.specs.Control.Commands.{IsSaid};
 
 use std::sync::{Mutex, Wait};
 

@@ -2,7 +2,7 @@
 
 ghost use Rattle.std.specs.Prelude.{◌≡◌};
 ghost use Rattle.pn_serve.specs.Copies.{NoRefusal, cut_fault, start_fault};
-ghost use Rattle.pn_serve.specs.Copies.Words.{IsErrorOf};
+ghost use Rattle.pn_serve.specs.Copies.Reading.{IsErrorOf};
 ghost use Rattle.pn_serve.specs.declared.copies.fault.CopiesFault.TheVariants.{Memory as no_memory};
 
 use pn_join::NoMemory;

@@ -1,7 +1,11 @@
-//! Copies, read by several workers from a text in which they stand one after another.
+//! Copies, read by several workers from a text in which they stand one after another, up to the first faulty line.
 
-ghost use Rattle.std.specs.Prelude.{◌≡◌, ◌≢◌, ◌≤◌, ◌<◌, ◌+◌, ℕ, List, [], ◌++◌, ◌∷◌, ◌⊎◌, false, true, length, vec_len, Ok, Some, IfOk, IfErr, OnOk};
+ghost use Rattle.std.specs.Prelude.{◌≡◌, ◌-◌, ◌*◌, ◌/◌, ◌^◌, ◌≤◌, ◌<◌, length, min, take, false, true, Ok, IfErr, ◌≢◌, ◌+◌, ℕ, List, [], ◌++◌, ◌∷◌, ◌⊎◌};
+ghost use Rattle.std.specs.Prelude.{vec_len, Some, IfOk, OnOk};
 ghost use Rattle.pn_json.specs.Prelude.{IsUnless};
+ghost use Rattle.pn_tablet.specs.Prelude.{copy_at};
+ghost use Rattle.pn_serve.specs.Copies.Faulty.{has_faulty_line};
+ghost use Rattle.pn_serve.specs.declared.copies.reading.TheConstants.{FIRST_BYTES, PART};
 ghost use Rattle.pn_tablet.specs.declared.layout.TheConstants.{MAX_BOUNDS};
 ghost use Rattle.pn_serve.specs.Copies.Reading.{AreAdded, AreRead, CopiesReaderValue, HasRead, StopsAt, StopsReading, copy_in_cut, told_in};
 
@@ -13,6 +17,66 @@ use std::alloc::Global;
 use std::marker::Model;
 use std::thread;
 use std::thread::Threads;
+
+/// How many bytes a text has once its front is read first.
+const FIRST_BYTES: usize = 1_048_576;
+
+/// The front is this part of the text.
+const PART: usize = 32;
+
+/// When the front of a text is read while the text grows.
+#[derive(Drop)]
+pub(crate) struct FrontReader {
+    // How many bytes the text has then.
+    due: usize,
+}
+
+impl FrontReader {
+    /// Before the first byte of a text.
+    pub(crate) fn new() -> FrontReader
+        ensures { result.due ≡ FIRST_BYTES }
+    {
+        FrontReader { due: FIRST_BYTES }
+    }
+
+    /// Whether a line of the text is at fault, as far as it is read now: a thirty-second of it whenever it has doubled.
+    pub(crate) fn finds_fault<R: Threads>(
+        &mut self,
+        rt: &R,
+        alloc: Global,
+        text: &[u8],
+        workers: usize,
+    ) -> Result<bool, CopiesFault>
+        ensures faulty { result ≡ Ok true → has_faulty_line (copy_at text.now) ≡ true }
+        ensures right { self.old.due ≤ length text.now → result ≡ Ok false → has_faulty_line (copy_at (take (length text.now / PART) text.now)) ≡ false }
+        ensures later { self.old.due ≤ length text.now → self.new.due ≡ min (length text.now * 2) (2 ^ 64 - 1) }
+        ensures waits { length text.now < self.old.due → (result ≡ Ok false) × (self.new.due ≡ self.old.due) }
+        ensures fault { IfErr result (λ fault. fault ≡ CopiesFault.Memory) }
+    {
+        if text.len() < self.due {
+            return Ok(false);
+        }
+        self.due = text.len().saturating_mul(2);
+        has_faulty_line(rt, alloc, &text[..text.len() / PART], workers)
+    }
+}
+
+// Whether a line of a text is at fault which is no end, so that it is at fault whatever follows.
+fn has_faulty_line<R: Threads>(
+    rt: &R,
+    alloc: Global,
+    text: &[u8],
+    workers: usize,
+) -> Result<bool, CopiesFault>
+    ensures { IsUnless CopiesFault.Memory result (Ok (has_faulty_line (copy_at text.now))) }
+{
+    match read_copy_by(rt, alloc, text, workers) {
+        Ok(_) => Ok(false),
+        Err(CopyTextFault::Memory) => Err(CopiesFault::Memory),
+        Err(CopyTextFault::Truncated | CopyTextFault::BadEnd) => Ok(false),
+        Err(_) => Ok(true),
+    }
+}
 
 /// Reads the copies of a text by 1 to 16 workers, which share the lines of few copies. Beside the copies it takes the memory
 /// of one copy's text a worker, and of what its lines say. A faulty line is found by the time that 64 times
@@ -32,7 +96,7 @@ impl<S: Drop> Model for CopiesReader<S> {
 
     ghost Value = { CopiesReaderValue S };
 
-    ghost use Rattle.pn_serve.specs.Copies.Coding.{copies_reader_code};
+    ghost use Rattle.pn_serve.specs.Proofs.{copies_reader_code};
 
     ghost coded = { copies_reader_code S.code };
 

@@ -1,14 +1,13 @@
 //! The texts of copies, cut out of a text in which they stand one after another.
 
 ghost use Rattle.std.specs.Prelude.{◌≡◌, ◌+◌, ◌<◌, ◌≤◌, ℕ, List, [], ◌++◌, vec_len, false, true, Ok, Some, IfOk, IfErr};
-ghost use Rattle.pn_line.specs.LineEnd.{ReadsTo};
+ghost use Rattle.pn_line.specs.Line.{ReadsTo};
 ghost use Rattle.pn_line.specs.Prelude.{so_far};
-ghost use Rattle.pn_serve.specs.Copies.Cutting.{begins_end, line_number};
+ghost use Rattle.pn_serve.specs.Copies.Cutting.{begins_end, line_number, Adds, IsNoTextFault};
 ghost use Rattle.pn_serve.specs.Copies.Faulty.{AreCutsToFault, CutsNext, IsCutSoon};
-ghost use Rattle.pn_serve.specs.Copies.Lines.{Adds, IsNoTextFault};
 
 use crate::CopiesFault;
-use crate::copies::fronts::FrontReader;
+use crate::copies::reading::FrontReader;
 use pn_line::{BoundedEnd, LineBuffer, Source, read_bounded_line};
 use std::alloc::{AllocError, Global};
 use std::marker::Model;
@@ -58,7 +57,7 @@ pub(crate) struct CopyTexts<S: Drop> {
 }
 
 impl<S: Drop> Model for CopyTexts<S> {
-    ghost use Rattle.pn_serve.specs.Copies.Lines.{CopyTextsValue};
+    ghost use Rattle.pn_serve.specs.Copies.Cutting.{CopyTextsValue};
 
     ghost Value = { CopyTextsValue S };
 

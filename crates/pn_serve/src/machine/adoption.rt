@@ -5,11 +5,9 @@ ghost use Rattle.pn_line.specs.Prelude.{kept_bytes};
 ghost use Rattle.pn_json.specs.Prelude.{IsUnless};
 ghost use Rattle.pn_region.specs.Prelude.{after_adoption};
 ghost use Rattle.pn_tablet.specs.Prelude.{copy_at};
-ghost use Rattle.pn_serve.specs.Machine.Modes.{bytes_of, mode_of, with_mode};
-ghost use Rattle.pn_serve.specs.Machine.Outcomes.{announced as announced_mode, machine_over};
-ghost use Rattle.pn_serve.specs.Machine.Recovering.{adoption_turn, text_adoption_turn};
-ghost use Rattle.pn_serve.specs.Machine.Answers.{AnswersBy, ConcludesBy};
-ghost use Rattle.pn_serve.specs.Machine.Ways.{ComesTo, Gathers, IsJoined};
+ghost use Rattle.pn_serve.specs.Machine.Outcomes.{bytes_of, mode_of, with_mode, announced as announced_mode, machine_over};
+ghost use Rattle.pn_serve.specs.Machine.Doing.{adoption_turn, text_adoption_turn};
+ghost use Rattle.pn_serve.specs.Machine.Turns.{AnswersBy, ConcludesBy, ComesTo, Gathers, IsJoined};
 
 use crate::machine::ScriptAnswer;
 use pn_join::NoMemory;

@@ -3,27 +3,30 @@
 ghost use Rattle.std.specs.Prelude.{◌≡◌, ◌≢◌, [], MatchBool};
 ghost use Rattle.pn_lines.specs.Answers.{answer_of, reply_of};
 ghost use Rattle.pn_protocol.specs.Prelude.{is_refusal as refuses};
-ghost use Rattle.pn_serve.specs.Lines.Handled.{given_by, pieces_left, replied_of};
+ghost use Rattle.pn_serve.specs.Lines.{given_by, pieces_left, replied_of};
 
-use crate::sessions::going::Going;
+use crate::sessions::pending_lookup::PendingLookup;
 use pn_lines::{Answered, EndedBy, LineReply, PieceText};
 use pn_protocol::{Reply, ReplyText};
 
 /// What there is of the answer to a line.
 #[derive(Drop)]
-pub(crate) enum Answer {
+pub(crate) enum LineOutcome {
     /// The reply.
     Done(Reply),
     /// A look that is to be resumed.
-    Going(Going),
+    Pending(PendingLookup),
 }
+
+/// The answer to a line, as the engine for lines takes it.
+pub type LineAnswer = Answered<PendingLookup, ReplyPieces>;
 
 /// The text of a reply, of which some is made.
 #[derive(Drop)]
 pub struct ReplyPieces(pub ReplyText);
 
 impl PieceText for ReplyPieces {
-    ghost use Rattle.pn_serve.specs.Lines.Handled.{pieces_left};
+    ghost use Rattle.pn_serve.specs.Lines.{pieces_left};
 
     ghost unmade = { pieces_left };
 
@@ -40,13 +43,13 @@ impl PieceText for ReplyPieces {
 }
 
 /// An answer that took this number of units of work.
-pub(crate) fn answered(answer: Answer, units: u32) -> Answered<Going, ReplyPieces>
+pub(crate) fn answered(answer: LineOutcome, units: u32) -> LineAnswer
     ensures answer { answer_of pieces_left result.answer ≡ given_by answer }
     ensures units { result.units ≡ units }
 {
     let answer = match answer {
-        Answer::Done(reply) => pn_lines::Answer::Done(line_reply(reply)),
-        Answer::Going(going) => pn_lines::Answer::Going(going),
+        LineOutcome::Done(reply) => pn_lines::LineOutcome::Done(line_reply(reply)),
+        LineOutcome::Pending(pending) => pn_lines::LineOutcome::Pending(pending),
     };
     Answered { answer, units }
 }

@@ -4,7 +4,7 @@ ghost use Rattle.std.specs.Prelude.{◌≡◌, IfOk};
 ghost use Rattle.pn_json.specs.Prelude.{line_of};
 ghost use Rattle.pn_protocol.specs.Prelude.{get as get_asked, notices as notices_asked, read as read_asked, scan as scan_asked, found_since};
 ghost use Rattle.pn_serve.specs.Machine.Outcomes.{machine_over};
-ghost use Rattle.pn_serve.specs.Machine.Answers.{Obeys};
+ghost use Rattle.pn_serve.specs.Machine.Turns.{Obeys};
 
 use pn_join::NoMemory;
 use pn_protocol::{

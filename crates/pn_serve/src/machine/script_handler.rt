@@ -3,19 +3,18 @@
 ghost use Rattle.std.specs.Prelude.{◌≡◌, ℕ, List, IfOk};
 ghost use Rattle.pn_line.specs.Prelude.{kept_bytes};
 ghost use Rattle.pn_region.specs.Prelude.{new_region};
-ghost use Rattle.pn_serve.specs.Lines.Handled.{by_end};
-ghost use Rattle.pn_serve.specs.Machine.Answers.{Answers, Concludes};
+ghost use Rattle.pn_serve.specs.Lines.{by_end};
+ghost use Rattle.pn_serve.specs.Machine.Turns.{Answers, Concludes};
 ghost use Rattle.pn_serve.specs.Machine.Outcomes.{new_machine};
 ghost use Rattle.std.specs.Thread.{IsSync};
 
 use crate::Settings;
 use crate::machine::adoption::AnnouncedText;
-use crate::machine::command_reader::Json;
-use crate::machine::line_answers::{Answer, ReplyPieces, answered};
-use crate::machine::{answer_end, answer_line};
-use crate::sessions::going::Going;
+use crate::machine::line_answers::{LineAnswer, LineOutcome, ReplyPieces, answered};
+use crate::machine::{Json, answer_end, answer_line};
+use crate::sessions::pending_lookup::PendingLookup;
 use pn_join::NoMemory;
-use pn_lines::{Answered, EndedBy, LineHandler};
+use pn_lines::{EndedBy, LineHandler};
 use pn_protocol::Reply;
 use pn_region::Region;
 use std::alloc::Global;
@@ -35,12 +34,12 @@ pub(crate) struct ScriptHandler<'a, R> {
 impl<'a, R> Model for ScriptHandler<'a, R> {
     ghost use Rattle.std.specs.Prelude.{◌≤◌};
     ghost use Rattle.pn_apply.specs.declared.reducing.TheConstants.{MAX_WORKERS};
-    ghost use Rattle.pn_serve.specs.Machine.Modes.{with_mode};
+    ghost use Rattle.pn_serve.specs.Machine.Outcomes.{with_mode};
     ghost use Rattle.pn_serve.specs.Machine.Outcomes.{Machine};
 
     ghost Value = { Machine };
 
-    ghost use Rattle.pn_serve.specs.Lines.Coding.{machine_code};
+    ghost use Rattle.pn_serve.specs.Proofs.{machine_code};
 
     ghost coded = { machine_code };
 
@@ -65,6 +64,20 @@ impl<'a, R: Threads + Sync> ScriptHandler<'a, R> {
             workers,
             announced: None,
         })
+    }
+
+    /// The region, with its log.
+    pub(crate) fn into_region(self) -> Region
+        ensures state { result.state ≡ self.entry.region }
+        ensures log { result.log ≡ self.entry.log }
+    {
+        let ScriptHandler {
+            rt: _rt,
+            region,
+            workers: _workers,
+            announced: _announced,
+        } = self;
+        region
     }
 
     // Answers a line, or the end of the input, by its first bytes.
@@ -111,13 +124,13 @@ impl<'a, R: Threads + Sync> ScriptHandler<'a, R> {
 impl<'a, R: Threads + Sync> LineHandler for ScriptHandler<'a, R> {
     ghost use Rattle.pn_scan.specs.Prelude.{Stays};
     ghost use Rattle.pn_lines.specs.Handling.{by};
-    ghost use Rattle.pn_serve.specs.Lines.Handled.{Replies};
-    ghost use Rattle.pn_serve.specs.Machine.Answers.{Answers, Concludes};
-    ghost use Rattle.pn_serve.specs.Proofs.Steady.{alone_steadily, forgets_steadily};
-    ghost use Rattle.pn_serve.specs.Session.Looking.{going_left};
+    ghost use Rattle.pn_serve.specs.Lines.{Replies};
+    ghost use Rattle.pn_serve.specs.Machine.Turns.{Answers, Concludes};
+    ghost use Rattle.pn_serve.specs.Proofs.{alone_steadily, forgets_steadily};
+    ghost use Rattle.pn_serve.specs.Session.Resuming.{pending_left};
     ghost use Rattle.std.specs.Thread.{IsSync};
 
-    type Going = Going;
+    type Pending = PendingLookup;
 
     type Text = ReplyPieces;
 
@@ -126,27 +139,17 @@ impl<'a, R: Threads + Sync> LineHandler for ScriptHandler<'a, R> {
 
     ghost handling = { by Stays (Replies Answers Concludes) (λ _ _ _ _ _. ⊥) (λ _. ⊥) };
 
-    ghost left = { going_left };
+    ghost left = { pending_left };
 
     ghost keeps = { λ _ _. Unit {0} };
 
-    fn answer(
-        &mut self,
-        alloc: Global,
-        line: &[u8],
-        ended: EndedBy,
-    ) -> Answered<Going, ReplyPieces> {
-        answered(Answer::Done(self.reply_to(alloc, line, ended)), 1)
+    fn answer(&mut self, alloc: Global, line: &[u8], ended: EndedBy) -> LineAnswer {
+        answered(LineOutcome::Done(self.reply_to(alloc, line, ended)), 1)
     }
 
     // No line is resumed.
-    fn go_on(
-        &mut self,
-        _alloc: Global,
-        _going: Going,
-        _units: u32,
-    ) -> Answered<Going, ReplyPieces> {
-        answered(Answer::Done(Reply::Silent), 0)
+    fn go_on(&mut self, _alloc: Global, _pending: PendingLookup, _units: u32) -> LineAnswer {
+        answered(LineOutcome::Done(Reply::Silent), 0)
     }
 
     ghost steady = { alone_steadily (Replies Answers Concludes) (λ _. ⊥) (λ _ _. Unit {0}) forgets_steadily };

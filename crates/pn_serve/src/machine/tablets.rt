@@ -3,13 +3,12 @@
 ghost use Rattle.std.specs.Prelude.{length, ◌+◌};
 ghost use Rattle.pn_protocol.specs.Prelude.{copy as copy_asked, lose as lose_asked, relayout as relayout_asked};
 ghost use Rattle.pn_serve.specs.Machine.Outcomes.{machine_over};
-ghost use Rattle.pn_region.specs.Relayouts.{after_relayout};
-ghost use Rattle.pn_serve.specs.Machine.Answers.{Obeys};
-ghost use Rattle.pn_serve.specs.Machine.Relaying.{relaid_turn};
-ghost use Rattle.pn_serve.specs.Machine.Ways.{ComesTo};
+ghost use Rattle.pn_region.specs.Recovery.{after_relayout};
+ghost use Rattle.pn_serve.specs.Machine.Turns.{Obeys, ComesTo};
+ghost use Rattle.pn_serve.specs.Machine.Doing.{relaid_turn};
 
 use pn_join::Marks;
-use pn_protocol::{CommandFault, Part, Refusal, Reply, answer_copy, refuse};
+use pn_protocol::{CommandFault, MemberName, Refusal, Reply, answer_copy, refuse};
 use pn_record::Key;
 use pn_region::Region;
 use pn_tablet::Layout;
@@ -20,7 +19,7 @@ pub(crate) fn lose_tablet(region: &mut Region, tablet: u64) -> Reply
     ensures { Obeys (machine_over region.old) (lose_asked tablet) (machine_over region.new) result }
 {
     if tablet >= region.layout().count() as u64 {
-        return Reply::Refused(Refusal::OutOfRange(Part::Tablet));
+        return Reply::Refused(Refusal::OutOfRange(MemberName::Tablet));
     }
     region.lose(tablet as usize);
     Reply::Lost(tablet)
@@ -31,7 +30,7 @@ pub(crate) fn copy_tablet(alloc: Global, region: &Region, need: &Marks, tablet: 
     ensures { Obeys (machine_over region.now) (copy_asked need.now tablet) (machine_over region.now) result }
 {
     if tablet >= region.layout().count() as u64 {
-        return Reply::Refused(Refusal::OutOfRange(Part::Tablet));
+        return Reply::Refused(Refusal::OutOfRange(MemberName::Tablet));
     }
     answer_copy(alloc, tablet as usize, region.copy(tablet as usize, need))
 }
@@ -42,7 +41,7 @@ pub(crate) fn relayout(alloc: Global, region: &mut Region, bounds: Vec<Key>) -> 
 {
     match Layout::new(bounds) {
         Ok(layout) => relayout_to(alloc, region, layout),
-        Err(_) => Reply::Refused(Refusal::OutOfRange(Part::Bounds)),
+        Err(_) => Reply::Refused(Refusal::OutOfRange(MemberName::Bounds)),
     }
 }
 

@@ -7,17 +7,16 @@ ghost use Rattle.pn_join.specs.Prelude.{Reaches};
 ghost use Rattle.pn_live.specs.LiveRegions.{core};
 ghost use Rattle.pn_live.specs.Prelude.{tablets_in};
 ghost use Rattle.pn_region.specs.Prelude.{IsRegion};
-ghost use Rattle.pn_serve.specs.Server.Events.{RunsCommands, RunsEvents, ToldAll};
-ghost use Rattle.pn_serve.specs.Server.Reading.{RunsRounds};
+ghost use Rattle.pn_serve.specs.Server.Events.{RunsCommands, RunsEvents, ToldAll, RunsRounds};
 ghost use Rattle.pn_serve.specs.Server.Rounds.{RoundInputValue};
-ghost use Rattle.pn_serve.specs.Server.Sent.{IsSent};
+ghost use Rattle.pn_serve.specs.Server.Publishers.{IsSent};
 ghost use Rattle.pn_serve.specs.declared.server.mailboxes.AtFault.{AtFault};
 
 use crate::ServeFault;
 use crate::control::mailboxes::{ControlMailboxes, StopAsked};
 use crate::server::mailboxes::{ReportSeen, StreamMailbox, StreamMailboxes};
+use crate::server::publishers::{AnyPublishers, Sending};
 use crate::server::rounds::{RoundInput, take_round};
-use crate::server::texts::{AnyWriters, Sending};
 use crate::server::times::{begin_time, end_time};
 use crate::server::wakeup::Waited;
 use pn_live::LiveRegion;
@@ -162,7 +161,7 @@ pub fn take_commands<R: Wait>(
 {
     controls.note_log(rt, live);
     for _ in rt.forever() {
-        controls.obey_all::<R, AnyWriters>(rt, alloc, live, &[]);
+        controls.obey_all::<R, AnyPublishers>(rt, alloc, live, &[]);
         if let Some(asked) = controls.show_stop(rt) {
             return asked;
         }
@@ -184,5 +183,5 @@ pub fn take_commands_for<R: Wait + Clock>(
     ensures same { tablets_in live.new ≡ tablets_in live.old }
 {
     let _ = controls.wakeup.wait_at_most(rt, most);
-    controls.obey_all::<R, AnyWriters>(rt, alloc, live, &[]);
+    controls.obey_all::<R, AnyPublishers>(rt, alloc, live, &[]);
 }

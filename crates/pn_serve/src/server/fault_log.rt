@@ -1,18 +1,38 @@
-//! The faults of streams that have one writer each.
+//! Why streams were not served to their end, and the log of their faults.
 
-use crate::server::texts::Sending;
-use crate::server::writers::{NextWriter, Origin, WriterEnd};
-use pn_join::StreamName;
+use crate::server::publishers::{NextPublisher, Origin, PublisherEnd, Sending};
+use pn_join::{Name, StreamName};
 use pn_line::Source;
 use std::alloc::{AllocError, Global};
 use std::mem;
 use std::sync::{Arc, Mutex, Wait};
+use thiserror::Error;
+
+/// Why streams were not served to their end.
+#[derive(Debug, Drop, Error)]
+pub enum ServeFault {
+    /// The live region was not opened, or a thread was refused. Sessions that had started were served.
+    #[error("cannot start")]
+    Start,
+    /// The stream of this name has a fault, or was not taken to its end. The sessions were served.
+    #[error("stream {name} failed", name = .0.as_str())]
+    Stream(Name),
+    /// A round was refused. The sessions were served.
+    #[error("round failed")]
+    Round,
+    /// Out of memory while closing the live region. The sessions were served.
+    #[error("close failed")]
+    Close,
+    /// The writer failed or took no byte.
+    #[error("write")]
+    Write,
+}
 
 /// A stream that failed, and how its input ended.
 #[derive(Clone, Copy, Debug)]
 pub struct StreamFailure {
     pub name: StreamName,
-    pub end: WriterEnd,
+    pub end: PublisherEnd,
 }
 
 /// Collects the faults of streams, which are printed when the program ends.
@@ -42,27 +62,27 @@ impl FaultLog {
     }
 }
 
-/// The origin of a stream whose one writer is being read. Its fault is noted where somebody asks for faults.
+/// The origin of a stream whose one publisher is being read. Its fault is noted where somebody asks for faults.
 #[derive(Drop)]
-pub(crate) struct OneWriter<R: Wait + Copy> {
+pub(crate) struct OnePublisher<R: Wait + Copy> {
     pub(crate) rt: R,
     pub(crate) name: StreamName,
     pub(crate) faults: Option<Arc<FaultLog>>,
 }
 
-impl<R: Wait + Copy, S: Source + Drop, M: Sending> Origin<S, M> for OneWriter<R> {
+impl<R: Wait + Copy, S: Source + Drop, M: Sending> Origin<S, M> for OnePublisher<R> {
     ghost may_go_on = { ⊥ };
 
     ghost begins_after = { λ _ _. ⊥ };
 
-    fn next_writer(&mut self, _name: &StreamName, _last: u64) -> Option<NextWriter<S>> {
+    fn next_publisher(&mut self, _name: &StreamName, _last: u64) -> Option<NextPublisher<S>> {
         None
     }
 
-    fn hand_on(&mut self, _last: u64) {}
+    fn note_handed(&mut self, _last: u64) {}
 
-    fn end_writer(&mut self, _source: S, end: &WriterEnd, _last: u64) {
-        if let (WriterEnd::Fault { .. }, Some(log)) = (end, &self.faults) {
+    fn end_publisher(&mut self, _source: S, end: &PublisherEnd, _last: u64) {
+        if let (PublisherEnd::Fault { .. }, Some(log)) = (end, &self.faults) {
             log.note(
                 &self.rt,
                 StreamFailure {
@@ -73,5 +93,5 @@ impl<R: Wait + Copy, S: Source + Drop, M: Sending> Origin<S, M> for OneWriter<R>
         }
     }
 
-    fn stop_writer(&mut self, _source: S) {}
+    fn stop_publisher(&mut self, _source: S) {}
 }

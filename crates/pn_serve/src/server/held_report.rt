@@ -1,11 +1,13 @@
-//! What the mailbox of a stream holds.
+//! What the mailbox of a stream holds and keeps.
 
-ghost use Rattle.std.specs.Prelude.{◌≡◌, ◌≢◌, true, false, None, MatchOption, MatchResult};
-ghost use Rattle.pn_serve.specs.Server.Mailboxes.{is_closed, is_left};
+ghost use Rattle.std.specs.Prelude.{◌≡◌, ◌≢◌, true, false, None, MatchOption, MatchResult, IfSome};
+ghost use Rattle.pn_serve.specs.Server.Reports.{is_closed, is_left};
 ghost use Rattle.pn_serve.specs.declared.server.held_report.HeldReport.TheVariants.{Nothing, Left, Closed};
+ghost use Rattle.pn_serve.specs.Server.Publishers.{HoldsSent, HoldsSent-prop, IsSentReport};
 
+use crate::server::publishers::Sending;
 use crate::server::reports::Report;
-use std::marker::Model;
+use std::marker::{Model, PhantomData};
 use std::mem;
 use std::snapshot::Snapshot;
 
@@ -95,5 +97,50 @@ impl HeldReport {
         ensures { self.new ≡ Closed }
     {
         *self = HeldReport::Closed;
+    }
+}
+
+/// What a mailbox holds: if that is messages, they were read of what a publisher of their stream may send.
+#[derive(Drop)]
+pub(crate) struct KeptReport<M: Sending> {
+    pub(crate) held: HeldReport,
+    pub(crate) of: PhantomData<M>,
+    ghost sent: { HoldsSent M.known M.sends held } by { HoldsSent-prop M.known M.sends held },
+}
+
+impl<M: Sending> KeptReport<M> {
+    /// No report.
+    pub(crate) fn new() -> KeptReport<M>
+        ensures { result.held ≡ Nothing }
+    {
+        KeptReport {
+            held: HeldReport::Nothing,
+            of: PhantomData,
+        }
+    }
+
+    /// Puts a report into a mailbox that holds none, unless it is closed.
+    pub(crate) fn put(&mut self, report: Report) -> Result<LeftReport, ClosedMailbox>
+        requires empty { is_left self.old.held ≡ false }
+        requires sent { IsSentReport M.known M.sends report }
+        ensures { MatchResult result (λ left. (left ≡ report) × (self.old.held ≡ Nothing) × (self.new.held ≡ Left report))
+            (λ _. (self.old.held ≡ Closed) × (self.new.held ≡ Closed)) }
+    {
+        self.held.put(report)
+    }
+
+    /// Takes the report, if there is one. A closed mailbox stays closed.
+    pub(crate) fn take(&mut self) -> Option<Report>
+        ensures taken { MatchOption result (self.new.held ≡ self.old.held) (λ report. (self.old.held ≡ Left report) × (self.new.held ≡ Nothing)) }
+        ensures sent { IfSome result (IsSentReport M.known M.sends) }
+    {
+        self.held.take()
+    }
+
+    /// Closes the mailbox. A report that it holds is dropped.
+    pub(crate) fn close(&mut self)
+        ensures { self.new.held ≡ Closed }
+    {
+        self.held.close();
     }
 }

@@ -2,17 +2,15 @@
 
 ghost use Rattle.std.specs.Prelude.{◌≡◌, [], ◌∷◌, ◌++◌, map, vec_len, IfOk, IfSome, OnOk};
 ghost use Rattle.pn_serve.specs.Server.Reports.{name_in};
-ghost use Rattle.pn_serve.specs.Server.SentReports.{IsSentReport};
+ghost use Rattle.pn_serve.specs.Server.Publishers.{IsSentReport};
 
-use crate::server::counter::Counter;
-use crate::server::held_report::{ClosedMailbox, LeftReport};
-use crate::server::kept_report::KeptReport;
-use crate::server::reporter::Reporter;
-use crate::server::reports::Report;
+use crate::server::held_report::{ClosedMailbox, KeptReport, LeftReport};
+use crate::server::publishers::Sending;
+use crate::server::reports::{Report, Reporter};
 use crate::server::shown_mark::ShownMark;
-use crate::server::texts::Sending;
-use crate::server::times::TimeCounters;
+use crate::server::times::{Counter, TimeCounters};
 use crate::server::wakeup::{Waited, Wakeup};
+use crate::shared::share;
 use pn_join::{Marks, StreamName};
 use std::alloc::{AllocError, Global};
 use std::sync::{Arc, Condvar, CondvarTimeouts, Mutex, Wait};
@@ -181,14 +179,6 @@ impl<M: Sending> StreamMailboxes<M> {
 pub(crate) fn show_marks<M: Sending>(streams: &[StreamMailbox<M>], marks: &Marks) {
     for stream in streams.iter() {
         stream.show(marks);
-    }
-}
-
-/// The same counter, where there is one.
-pub(crate) fn share<T: Drop>(counter: &Option<Arc<T>>) -> Result<Option<Arc<T>>, AllocError> {
-    match counter {
-        Some(counter) => Ok(Some(Arc::try_clone(counter)?)),
-        None => Ok(None),
     }
 }
 

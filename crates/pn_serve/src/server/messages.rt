@@ -7,9 +7,6 @@ use pn_apply::Share;
 use pn_stream::Delivery;
 use std::alloc::Global;
 
-/// The most messages of a stream that are taken in one round.
-pub(crate) const MAX_MESSAGES: usize = 1_000;
-
 /// 1 to 1,000 messages of a stream, for one round.
 #[derive(Drop)]
 pub(crate) struct RoundMessages {

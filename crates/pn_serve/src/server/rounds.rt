@@ -3,21 +3,20 @@
 ghost use Rattle.std.specs.Prelude.{◌≡◌, ◌+◌, ◌<◌, ◌≤◌, [], length, map, vec_len, vec_capacity, All, true, None, IfOk, IfErr, IfSome};
 ghost use Rattle.pn_apply.specs.declared.reducing.TheConstants.{MAX_WORKERS};
 ghost use Rattle.pn_live.specs.Prelude.{tablets_in};
-ghost use Rattle.pn_region.specs.Marking.{leaves_gap};
-ghost use Rattle.pn_serve.specs.Server.Gathering.{IsInputOf, first_fault, goes_on, no_input, value_of, with_report};
+ghost use Rattle.pn_region.specs.Rounds.{leaves_gap};
 ghost use Rattle.pn_serve.specs.Server.Messages.{FitRound};
-ghost use Rattle.pn_serve.specs.Server.Rounds.{CanBeTaken, Continues};
-ghost use Rattle.pn_serve.specs.Server.Sent.{IsSent};
-ghost use Rattle.pn_serve.specs.Server.Tries.{IsNextInput, TakesRound, waiting_value};
+ghost use Rattle.pn_serve.specs.Server.Rounds.{IsInputOf, first_fault, goes_on, no_input, value_of, with_report, CanBeTaken, Continues, IsNextInput};
+ghost use Rattle.pn_serve.specs.Server.Rounds.{TakesRound, waiting_value};
+ghost use Rattle.pn_serve.specs.Server.Publishers.{IsSent};
 ghost use Rattle.pn_serve.specs.declared.server.mailboxes.AtFault.TheVariants.{Stop, GoOn};
 
 use crate::ServeFault;
 use crate::server::mailboxes::{AtFault, StreamMailbox, StreamMailboxes};
 use crate::server::messages::RoundShare;
+use crate::server::publishers::Sending;
 use crate::server::reports::Report;
-use crate::server::texts::Sending;
 use crate::server::tries::run_input;
-use pn_apply::Share;
+use pn_apply::{Batch, Share};
 use pn_join::{Marks, StreamName};
 use pn_live::LiveRegion;
 use std::alloc::{AllocError, Global};
@@ -121,7 +120,7 @@ fn gather<R: Wait, M: Sending>(
     let streams = mem::replace(&mut mailboxes.streams, left);
     for stream in streams {
         let report = stream.take(rt);
-        if add_note(&mut input, marks, &stream.name, report) {
+        if add_report(&mut input, marks, &stream.name, report) {
             mailboxes.streams.push_reserved(stream);
         } else {
             stream.mailbox.close(rt);
@@ -148,7 +147,7 @@ fn new_input<M: Sending>(
 }
 
 // Adds what the mailbox of the stream of a name gave. Answers whether the stream is read on.
-fn add_note(
+fn add_report(
     input: &mut RoundInput,
     marks: &Marks,
     name: &StreamName,

@@ -1,12 +1,12 @@
-//! Sessions, each in its own thread, which gives its reader back.
+//! The threads of sessions, and how many there may be.
 
 ghost use Rattle.std.specs.Prelude.{◌≡◌, ◌+◌, ◌≤◌, [], vec_len, vec_capacity, All, IfOk, IsFalse};
 ghost use Rattle.pn_live.specs.Prelude.{tablets_in, tablets_of};
-ghost use Rattle.pn_serve.specs.Server.Sessions.{AllRead};
-ghost use Rattle.pn_serve.specs.Session.Knowing.{KnowsNoLess};
+ghost use Rattle.pn_serve.specs.Server.Events.{AllRead};
+ghost use Rattle.pn_serve.specs.Session.Resuming.{KnowsNoLess};
 
-use crate::server::counter::Counter;
 use crate::server::fault_log::FaultLog;
+use crate::server::times::Counter;
 use crate::session;
 use pn_live::{LiveReader, LiveRegion};
 use std::alloc::Global;
@@ -17,12 +17,18 @@ use std::sync::Arc;
 use std::thread::{Promise, PromisedHandle, Threads};
 use std::{io, thread};
 
+/// The most sessions that are served at once.
+pub const MAX_SESSIONS: usize = 16;
+
+/// The most control sessions at once.
+pub const MAX_CONTROLS: usize = 16;
+
 /// How many bytes of a session are read at a time.
-const SESSION_CAPACITY: usize = 65_536;
+pub const SESSION_CAPACITY: usize = 65_536;
 
 /// Where the clients of sessions come from.
 pub trait Acceptor: Drop {
-    ghost use Rattle.pn_serve.specs.Session.Knowing.{KnowsNoLess};
+    ghost use Rattle.pn_serve.specs.Session.Resuming.{KnowsNoLess};
 
     /// Another handle of the same acceptor, for another thread.
     fn try_clone(&self) -> io::Result<Self>;
@@ -43,7 +49,7 @@ pub trait Acceptor: Drop {
 pub struct ComesBack(pub Snapshot<LiveReader>);
 
 impl Promise<LiveReader> for ComesBack {
-    ghost use Rattle.pn_serve.specs.Session.Knowing.{KnowsNoLess};
+    ghost use Rattle.pn_serve.specs.Session.Resuming.{KnowsNoLess};
 
     ghost kept_by = { λ promise reader. KnowsNoLess promise.0.value reader };
 }

@@ -2,7 +2,7 @@
 
 ghost use Rattle.std.specs.Prelude.{◌≡◌};
 ghost use Rattle.pn_join.specs.Prelude.{position_of};
-ghost use Rattle.pn_serve.specs.Server.Shown.{IsShown};
+ghost use Rattle.pn_serve.specs.Server.Reports.{IsShown};
 
 use pn_join::{Marks, StreamName};
 use std::sync::atomic::{AtomicIn, Ordering, Rule};
@@ -29,7 +29,7 @@ impl MarkSeen {
 pub(crate) struct MarkRule;
 
 impl Rule for MarkRule {
-    ghost use Rattle.pn_serve.specs.Server.Shown.{IsShown};
+    ghost use Rattle.pn_serve.specs.Server.Reports.{IsShown};
 
     ghost invariant = { IsShown };
 }

@@ -1,21 +1,21 @@
-//! Reads streams of one writer each, each in its own thread, which leaves reports in its mailbox.
+//! Reads streams of one publisher each, each in its own thread, which leaves reports in its mailbox.
 
 ghost use Rattle.std.specs.Prelude.{◌≡◌, ◌≤◌, ◌∷◌, [], ◌++◌, map, All, IfOk, IfErr, IsErr, OnOk, OnErr, MatchResult};
 ghost use Rattle.pn_join.specs.Prelude.{position_of};
-ghost use Rattle.pn_serve.specs.Server.Faults.{NamesOne, names_of};
-ghost use Rattle.pn_serve.specs.Server.Sent.{IsOfWriter};
-ghost use Rattle.pn_serve.specs.Server.Whole.{EndsStream, IsTakenWhole};
+ghost use Rattle.pn_serve.specs.Server.Reports.{NamesOne, names_of};
+ghost use Rattle.pn_serve.specs.Server.Publishers.{IsOfPublisher, EndsStream, IsTakenWhole};
 ghost use Rattle.pn_serve.specs.declared.server.mailboxes.AtFault.TheVariants.{Stop};
 
 use crate::ServeFault;
-use crate::server::counter::Counter;
-use crate::server::fault_log::{FaultLog, OneWriter};
+use crate::server::fault_log::{FaultLog, OnePublisher};
 use crate::server::mailboxes::{AtFault, StreamMailboxes};
-use crate::server::reporter::{HasReporter, Reporter};
+use crate::server::publisher_input::PublisherInput;
+use crate::server::publishers::Sending;
 use crate::server::reporting::{StreamEnd, report_stream};
-use crate::server::texts::Sending;
+use crate::server::reports::{HasReporter, Reporter};
+use crate::server::times::Counter;
 use crate::server::wakeup::Wakeup;
-use crate::server::writer_input::WriterInput;
+use crate::shared::share;
 use pn_join::{Marks, StreamName};
 use pn_line::Source;
 use pn_stream::StreamReader;
@@ -31,7 +31,7 @@ use std::time::Clock;
 pub(crate) struct SaysWhetherWhole<S: Source + Drop>(Snapshot<StreamReader<S>>);
 
 impl<S: Source + Drop> Promise<Result<StreamEnd, StreamName>> for SaysWhetherWhole<S> {
-    ghost use Rattle.pn_serve.specs.Server.Whole.{EndsStream};
+    ghost use Rattle.pn_serve.specs.Server.Publishers.{EndsStream};
 
     ghost kept_by = { λ promise ended. EndsStream S.left promise.0.value ended };
 }
@@ -87,7 +87,7 @@ where
     R: Threads + Wait + Clock + Copy + Send + 'static,
     S: Source + Drop + Send + 'static,
     M: Sending + Send + 'static,
-    requires sent { M.known → All (IsOfWriter M.sends S.left) streams.items }
+    requires sent { M.known → All (IsOfPublisher M.sends S.left) streams.items }
     ensures fault { IfErr result (λ fault. fault ≡ ServeFault.Start) }
     ensures threads { IfOk result (λ started. map (λ thread. thread.promise.0.value) started.threads.items ≡ streams.items) }
     ensures names { IfOk result (λ started. map (λ stream. stream.name) started.mailboxes.streams.items ≡ names_of streams.items) }
@@ -117,7 +117,7 @@ where
     R: Threads + Wait + Clock + Copy + Send + 'static,
     S: Source + Drop + Send + 'static,
     M: Sending + Send + 'static,
-    requires sent { M.known → IsOfWriter M.sends S.left stream }
+    requires sent { M.known → IsOfPublisher M.sends S.left stream }
     ensures threads { OnOk result (map (λ thread. thread.promise.0.value) started.new.threads.items
         ≡ map (λ thread. thread.promise.0.value) started.old.threads.items ++ stream ∷ []) }
     ensures names { OnOk result (map (λ stream. stream.name) started.new.mailboxes.streams.items
@@ -126,7 +126,7 @@ where
 {
     let name = *stream.name();
     let reporter = started.mailboxes.add(alloc, name, None)?;
-    let origin = OneWriter {
+    let origin = OnePublisher {
         rt: *rt,
         name,
         faults: share(faults)?,
@@ -144,7 +144,7 @@ fn spawn_reporting<R, S, P, M>(
     alloc: Global,
     stream: StreamReader<S>,
     workers: usize,
-    origin: OneWriter<R>,
+    origin: OnePublisher<R>,
     reporter: P,
 ) -> Result<StreamThread<S>, AllocError>
 where
@@ -152,7 +152,7 @@ where
     S: Source + Drop + Send + 'static,
     P: HasReporter<M> + Drop + Send + 'static,
     M: Sending + Send + 'static,
-    requires sent { M.known → IsOfWriter M.sends S.left stream }
+    requires sent { M.known → IsOfPublisher M.sends S.left stream }
     ensures { IfOk result (λ thread. thread.promise.0.value ≡ stream) }
 {
     let host = *rt;
@@ -161,18 +161,10 @@ where
         rt,
         promise,
         move ||
-            requires sent { M.known → IsOfWriter M.sends S.left stream }
+            requires sent { M.known → IsOfPublisher M.sends S.left stream }
         { report_to_end::<R, S, M>(&host, alloc, stream, workers, origin, reporter.reporter()) },
     )?;
     Ok(thread)
-}
-
-// Another handle of the log, if there is one.
-fn share(faults: &Option<Arc<FaultLog>>) -> Result<Option<Arc<FaultLog>>, AllocError> {
-    match faults {
-        Some(log) => Ok(Some(Arc::try_clone(log)?)),
-        None => Ok(None),
-    }
 }
 
 // Reports a stream to its end, or until the mailbox is closed. The error is the stream's name.
@@ -181,16 +173,16 @@ fn report_to_end<R: Threads + Wait + Clock + Copy, S: Source + Drop, M: Sending>
     alloc: Global,
     stream: StreamReader<S>,
     workers: usize,
-    origin: OneWriter<R>,
+    origin: OnePublisher<R>,
     reporter: &Reporter<M>,
 ) -> Result<StreamEnd, StreamName>
-    requires sent { M.known → IsOfWriter M.sends S.left stream }
+    requires sent { M.known → IsOfPublisher M.sends S.left stream }
     ensures { EndsStream S.left stream result }
 {
-    report_stream::<R, S, OneWriter<R>, M>(
+    report_stream::<R, S, OnePublisher<R>, M>(
         rt,
         alloc,
-        WriterInput::of(stream, workers),
+        PublisherInput::of(stream, workers),
         origin,
         reporter,
     )

@@ -1,30 +1,26 @@
-//! Streams that are read from one writer after another into a live region, each in its own thread.
+//! Streams that are read from one publisher after another into a live region, each in its own thread.
 
 ghost use Rattle.std.specs.Prelude.{◌≡◌, [], ◌∷◌, ◌++◌, ◌≤◌, map, None, IfErr, IfOk, IfSome, OnOk};
 ghost use Rattle.pn_apply.specs.declared.reducing.TheConstants.{MAX_WORKERS};
 ghost use Rattle.pn_live.specs.Prelude.{tablets_in};
-ghost use Rattle.pn_serve.specs.Server.Events.{ReadsBesides};
-ghost use Rattle.pn_serve.specs.Server.Honest.{AreHonestWriters};
-ghost use Rattle.pn_serve.specs.Server.Reading.{ReadsStreams};
-ghost use Rattle.pn_serve.specs.Server.Sent.{IsOfWriter, IsSent};
+ghost use Rattle.pn_serve.specs.Server.Events.{ReadsBesides, ReadsStreams};
+ghost use Rattle.pn_serve.specs.Server.Publishers.{AreHonestPublishers, IsOfPublisher, IsSent};
 ghost use Rattle.pn_serve.specs.declared.server.mailboxes.AtFault.TheVariants.{GoOn};
 ghost use Rattle.pn_stream.specs.Brokers.{IsHonest};
 ghost use Rattle.pn_stream.specs.Prelude.{BrokerRecord};
 
 use crate::ServeFault;
 use crate::control::mailboxes::ControlMailboxes;
-use crate::server::counter::Counter;
 use crate::server::events::{ReadingEnd, run_rounds};
-use crate::server::mailboxes::{AtFault, StreamMailboxes, share};
-use crate::server::reporter::Reporter;
+use crate::server::mailboxes::{AtFault, StreamMailboxes};
+use crate::server::publisher_input::{PublisherInput, workers_of_each};
+use crate::server::publishers::{Origin, Sending, Stream};
 use crate::server::reporting::{next_input, report_stream};
-use crate::server::reports::Report;
+use crate::server::reports::{Report, Reporter};
 use crate::server::shown_mark::MarkSeen;
-use crate::server::texts::Sending;
-use crate::server::times::TimeCounters;
+use crate::server::times::{Counter, TimeCounters};
 use crate::server::wakeup::Wakeup;
-use crate::server::writer_input::{WriterInput, workers_of_each};
-use crate::server::writers::{Origin, Stream};
+use crate::shared::share;
 use pn_join::{Marks, StreamName};
 use pn_line::Source;
 use pn_live::LiveRegion;
@@ -53,7 +49,7 @@ pub struct Watchers {
 /// most 1,000 messages of each a round. Between two rounds it does what control sessions ask for. A stream's fault ends that
 /// stream alone. Where memory runs out, a round or a stream's message waits, and is tried again after a second. The fault is
 /// `Start`, or `Round` where there are too many streams, after which no stream is read. All that is taken was read of what
-/// writers may send, where that is known, and is honest if they are.
+/// publishers may send, where that is known, and is honest if they are.
 pub fn read_streams<R, S, O, M>(
     rt: &R,
     alloc: Global,
@@ -64,15 +60,15 @@ pub fn read_streams<R, S, O, M>(
 ) -> Result<ReadingEnd, ServeFault>
 where
     R: Threads + Wait + Clock + Sync + Copy + Send + 'static,
-    S: Source + Drop + Send + 'static,
-    O: Origin<S, M> + Drop + Send + 'static,
     M: Sending + Send + 'static,
+    O: Origin<S, M> + Drop + Send + 'static,
+    S: Source + Drop + Send + 'static,
     requires workers { (1 ≤ workers) × (workers ≤ MAX_WORKERS) }
     ensures alone { watchers.now.controls ≡ None → ReadsStreams (IsSent M.known M.sends) (map (λ stream. stream.name) streams.items) live.old live.new result }
     ensures reads { ReadsBesides (IsSent M.known M.sends) (map (λ stream. stream.name) streams.items) live.old live.new result }
-    ensures honest { (broker : BrokerRecord) → M.known → AreHonestWriters broker M.sends
+    ensures honest { (broker : BrokerRecord) → M.known → AreHonestPublishers broker M.sends
         → ReadsBesides (IsHonest broker) (map (λ stream. stream.name) streams.items) live.old live.new result }
-    ensures honest_alone { watchers.now.controls ≡ None → (broker : BrokerRecord) → M.known → AreHonestWriters broker M.sends
+    ensures honest_alone { watchers.now.controls ≡ None → (broker : BrokerRecord) → M.known → AreHonestPublishers broker M.sends
         → ReadsStreams (IsHonest broker) (map (λ stream. stream.name) streams.items) live.old live.new result }
     ensures same { tablets_in live.new ≡ tablets_in live.old }
 {
@@ -176,13 +172,13 @@ where
     let reporter = mailboxes.add(alloc, name, taken)?;
     let host = *rt;
     thread::spawn(rt, move || {
-        report_writers::<R, S, O, M>(&host, alloc, after, workers, origin, &reporter)
+        report_publishers::<R, S, O, M>(&host, alloc, after, workers, origin, &reporter)
     })?;
     Ok(())
 }
 
-// Reports a stream from its first writer on. All up to its mark was taken before.
-fn report_writers<R, S, O, M>(
+// Reports a stream from its first publisher on. All up to its mark was taken before.
+fn report_publishers<R, S, O, M>(
     rt: &R,
     alloc: Global,
     after: MarkSeen,
@@ -207,16 +203,16 @@ where
     }
 }
 
-// The input of a stream's first writer, which begins after its mark or later. None where the stream has ended.
+// The input of a stream's first publisher, which begins after its mark or later. None where the stream has ended.
 fn first_input<S: Source + Drop, O: Origin<S, M>, M: Sending>(
     alloc: Global,
     name: StreamName,
     after: MarkSeen,
     workers: usize,
     origin: &mut O,
-) -> Option<WriterInput<S>>
+) -> Option<PublisherInput<S>>
     ensures last { IfSome result (λ first. after.position ≤ first.last) }
-    ensures sent { IfSome result (λ first. M.known → IsOfWriter M.sends S.left first.reader) }
+    ensures sent { IfSome result (λ first. M.known → IsOfPublisher M.sends S.left first.reader) }
 {
     next_input::<S, O, M>(alloc, name, after.position, workers, origin)
 }

@@ -3,9 +3,7 @@
 ghost use Rattle.std.specs.Prelude.{◌≡◌, ◌≤◌, true, All, None, Ok, Err, IfOk, IfSome, OnOk, OnErr, MatchResult};
 ghost use Rattle.pn_apply.specs.declared.reducing.TheConstants.{MAX_WORKERS};
 ghost use Rattle.pn_live.specs.Prelude.{tablets_in};
-ghost use Rattle.pn_serve.specs.Server.Gathering.{value_of};
-ghost use Rattle.pn_serve.specs.Server.Rounds.{Continues, IsRoundRefused, IsRoundTaken, TakesInput, TriesRound, ends_try};
-ghost use Rattle.pn_serve.specs.Server.Tries.{RunsInput};
+ghost use Rattle.pn_serve.specs.Server.Rounds.{value_of, Continues, IsRoundRefused, IsRoundTaken, TakesInput, TriesRound, ends_try, RunsInput};
 ghost use Rattle.pn_serve.specs.declared.server.mailboxes.AtFault.TheVariants.{Stop};
 
 use crate::ServeFault;

@@ -6,32 +6,30 @@ ghost use Rattle.pn_protocol.specs.Prelude.{command_value, copy as copy_asked, k
 ghost use Rattle.pn_protocol.specs.declared.refusal.Refusal.TheVariants.{Memory as no_memory};
 ghost use Rattle.pn_protocol.specs.declared.reply.Reply.TheVariants.{Refused};
 ghost use Rattle.pn_scan.specs.Prelude.{Stays};
-ghost use Rattle.pn_serve.specs.Lines.Going.{AnswersWith, answer_left};
-ghost use Rattle.pn_serve.specs.declared.machine.line_answers.Answer.TheVariants.{Done};
-ghost use Rattle.pn_serve.specs.Session.Lines.{AnswersLine, LooksUp};
-ghost use Rattle.pn_serve.specs.Session.Looking.{LooksFor, LooksTo, most_left};
-ghost use Rattle.pn_serve.specs.Session.Lookups.{LooksUpKey, LooksUpKeys, LooksUpPage, LooksUpCopy};
+ghost use Rattle.pn_serve.specs.Session.Resuming.{AnswersWith, answer_left, LooksFor, LooksTo, most_left};
+ghost use Rattle.pn_serve.specs.declared.machine.line_answers.LineOutcome.TheVariants.{Done};
+ghost use Rattle.pn_serve.specs.Session.Lines.{AnswersLine, LooksUp, LooksUpKey, LooksUpKeys, LooksUpPage, LooksUpCopy};
 
-use crate::machine::line_answers::Answer;
-use crate::sessions::going::Going;
+use crate::machine::line_answers::LineOutcome;
+use crate::sessions::pending_lookup::PendingLookup;
 use pn_join::Marks;
 use pn_live::LiveReader;
 use pn_protocol::{
-    Command, LineKind, Part, Refusal, Reply, answer_copy, answer_get, answer_read, answer_scan,
-    kind_and_lookup_of, lookup_of,
+    Command, LineKind, MemberName, Refusal, Reply, answer_copy, answer_get, answer_read,
+    answer_scan, kind_and_lookup_of, lookup_of,
 };
 use pn_record::{Key, Version};
 use pn_scan::{Query, View};
 use std::alloc::Global;
 
 /// Answers a line by what the reader finds, or begins to look for it.
-pub(super) fn answer_line(alloc: Global, reader: &mut LiveReader, line: &[u8]) -> Answer
+pub(super) fn answer_line(alloc: Global, reader: &mut LiveReader, line: &[u8]) -> LineOutcome
     ensures answers { AnswersWith (AnswersLine Stays) (LooksFor Stays) reader.old line.now reader.new result }
     ensures same { tablets_of reader.new ≡ tablets_of reader.old }
 {
     match lookup_of(alloc, line) {
         Ok(command) => begin(alloc, reader, command),
-        Err(refusal) => Answer::Done(Reply::Refused(refusal)),
+        Err(refusal) => LineOutcome::Done(Reply::Refused(refusal)),
     }
 }
 
@@ -40,7 +38,7 @@ pub(super) fn answer_with_kind(
     alloc: Global,
     reader: &mut LiveReader,
     line: &[u8],
-) -> (LineKind, Answer)
+) -> (LineKind, LineOutcome)
     ensures kind { (result.0 ≡ kind_at line.now) ⊎ (result.1 ≡ Done (Refused no_memory)) }
     ensures answers { AnswersWith (AnswersLine Stays) (LooksFor Stays) reader.old line.now reader.new result.1 }
     ensures same { tablets_of reader.new ≡ tablets_of reader.old }
@@ -49,20 +47,20 @@ pub(super) fn answer_with_kind(
     let (kind, command) = kind_and_lookup_of(alloc, line);
     match command {
         Ok(command) => (kind, begin(alloc, reader, command)),
-        Err(refusal) => (kind, Answer::Done(Reply::Refused(refusal))),
+        Err(refusal) => (kind, LineOutcome::Done(Reply::Refused(refusal))),
     }
 }
 
 // Answers a command, or begins to look for the answer.
-fn begin(alloc: Global, reader: &mut LiveReader, command: Command) -> Answer
+fn begin(alloc: Global, reader: &mut LiveReader, command: Command) -> LineOutcome
     ensures begins { LooksTo Stays reader.old (command_value command) reader.new result }
     ensures same { tablets_of reader.new ≡ tablets_of reader.old }
     ensures bounded { answer_left result ≤ most_left }
 {
     match command {
         Command::Copy { need, tablet } => begin_copy(alloc, reader, &need, tablet),
-        Command::Get(keys) => Answer::Going(Going::keys(alloc, keys)),
-        Command::Scan(query) => Answer::Going(Going::page(alloc, reader, query)),
+        Command::Get(keys) => LineOutcome::Pending(PendingLookup::keys(alloc, keys)),
+        Command::Scan(query) => LineOutcome::Pending(PendingLookup::page(alloc, reader, query)),
         Command::Adopt { .. }
         | Command::Deliver(_)
         | Command::Lose { .. }
@@ -70,22 +68,22 @@ fn begin(alloc: Global, reader: &mut LiveReader, command: Command) -> Answer
         | Command::Notices { .. }
         | Command::Read { .. }
         | Command::Relayout(_)
-        | Command::Tablets => Answer::Done(look_up(alloc, reader, command)),
+        | Command::Tablets => LineOutcome::Done(look_up(alloc, reader, command)),
     }
 }
 
 // Takes a copy, of which the lines are then counted.
-fn begin_copy(alloc: Global, reader: &mut LiveReader, need: &Marks, tablet: u64) -> Answer
+fn begin_copy(alloc: Global, reader: &mut LiveReader, need: &Marks, tablet: u64) -> LineOutcome
     ensures begins { LooksTo Stays reader.old (copy_asked need.now tablet) reader.new result }
     ensures same { tablets_of reader.new ≡ tablets_of reader.old }
     ensures bounded { answer_left result ≤ most_left }
 {
     if tablet >= reader.layout().count() as u64 {
-        return Answer::Done(Reply::Refused(Refusal::OutOfRange(Part::Tablet)));
+        return LineOutcome::Done(Reply::Refused(Refusal::OutOfRange(MemberName::Tablet)));
     }
     match reader.copy(tablet as usize, need) {
-        Ok(copy) => Answer::Going(Going::copy(copy)),
-        fault => Answer::Done(answer_copy(alloc, tablet as usize, fault)),
+        Ok(copy) => LineOutcome::Pending(PendingLookup::copy(copy)),
+        fault => LineOutcome::Done(answer_copy(alloc, tablet as usize, fault)),
     }
 }
 
@@ -137,7 +135,7 @@ fn copy_tablet(alloc: Global, reader: &mut LiveReader, need: &Marks, tablet: u64
     ensures same { tablets_of reader.new ≡ tablets_of reader.old }
 {
     if tablet >= reader.layout().count() as u64 {
-        return Reply::Refused(Refusal::OutOfRange(Part::Tablet));
+        return Reply::Refused(Refusal::OutOfRange(MemberName::Tablet));
     }
     answer_copy(alloc, tablet as usize, reader.copy(tablet as usize, need))
 }

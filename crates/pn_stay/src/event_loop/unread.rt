@@ -3,7 +3,7 @@
 ghost use Rattle.std.specs.Prelude.{◌≡◌, ◌≢◌, ◌⊎◌, ◌≤◌, ℕ, None, false, max, true};
 ghost use Rattle.std.specs.Option.{option_map};
 ghost use Rattle.pn_stay.specs.Unread.{EndsAt, EndsDeaf, EndsLongest, aged, is_deaf as deaf, quiet_in};
-ghost use Rattle.pn_stay.specs.UnreadClients.{quiet_at, unread_at};
+ghost use Rattle.pn_stay.specs.Loops.{quiet_at, unread_at};
 ghost use Rattle.slab.specs.Slab.{Updates};
 
 use crate::connection::Connection;

@@ -1,8 +1,8 @@
 //! The thread that accepts connections of a server that stays, and one that notes each quarter of a second.
 
-use crate::acceptor::{AcceptNotes, SocketAcceptor, accept_all, tell_quarters};
-use crate::connection_limit::ConnectionLimit;
+use crate::acceptor::{AcceptNotes, SocketAcceptor, accept_all, wake_each_quarter};
 use crate::counters::Counters;
+use crate::descriptors::ConnectionLimit;
 use crate::listener::Listener;
 use crate::messages::Messages;
 use crate::socket_mailbox::SocketMailbox;
@@ -141,9 +141,9 @@ where
     R: Threads + Wait + Clock + Copy + Send + 'static,
 {
     if shared.idle.is_some() {
-        let told = Arc::try_clone(mailboxes)?;
+        let woken = Arc::try_clone(mailboxes)?;
         let host = *rt;
-        thread::spawn(rt, move || tell_quarters(&host, &told))?;
+        thread::spawn(rt, move || wake_each_quarter(&host, &woken))?;
     }
     Ok(())
 }

@@ -3,7 +3,7 @@
 ghost use Rattle.std.specs.Prelude.{◌≡◌, ◌≤◌, vec_len, is_some, IfOk};
 ghost use Rattle.pn_apply.specs.declared.reducing.TheConstants.{MAX_WORKERS};
 ghost use Rattle.pn_live.specs.Prelude.{tablets_in};
-ghost use Rattle.pn_serve.specs.Server.Sessions.{AllRead};
+ghost use Rattle.pn_serve.specs.Server.Events.{AllRead};
 
 use super::{StayingServer, start_threads};
 use crate::acceptor::SocketAcceptor;

@@ -18,7 +18,7 @@ use std::time::{Clock, Duration, Instant};
 /// How many milliseconds the writer waits for a command before it looks at the threads again.
 const STEP: u64 = 10;
 
-/// For how many milliseconds at most a stop goes on until each writer of a stream was sent the position that was taken.
+/// For how many milliseconds at most a stop goes on until each publisher of a stream was sent the position that was taken.
 const TELLING: u64 = 200;
 
 /// For how many milliseconds control sessions may end also where no time is left.
@@ -41,8 +41,26 @@ pub(super) struct Stopping {
     pub(super) counters: Arc<Counters>,
 }
 
+// A stage of a stop: connections end in the first, control sessions in the last.
+#[derive(Clone, Copy)]
+struct Stage {
+    is_last: bool,
+    // Since when it lasts, where the clock says it.
+    began: Option<Instant>,
+}
+
+impl Stage {
+    // A stage that begins.
+    fn new<R: Clock>(rt: &R, is_last: bool) -> Stage {
+        Stage {
+            is_last,
+            began: Instant::now(rt).ok(),
+        }
+    }
+}
+
 impl Stopping {
-    /// Accepts no connection from now on. Waits until the lines that have come are answered and each writer was sent the position
+    /// Accepts no connection from now on. Waits until the lines that have come are answered and each publisher was sent the position
     /// that was taken, or the time is over, and ends control sessions then. What they ask for is done meanwhile.
     pub(super) fn run<R: Wait + Clock>(
         &self,
@@ -56,23 +74,20 @@ impl Stopping {
         ensures same { tablets_in live.new ≡ tablets_in live.old }
     {
         self.end_connections(rt);
-        self.await_connections(rt, alloc, live, controls, &asked);
-        self.end_controls(rt);
-        self.await_controls(rt, alloc, live, controls, &asked);
+        self.await_ends(rt, alloc, live, controls, &asked);
         controls.close(rt, asked)
     }
 
     // The threads learn of the stop first. Otherwise the one that accepts would take the end of its socket for a fault.
     fn end_connections<R: Wait>(&self, rt: &R) {
         for mailbox in self.mailboxes.iter() {
-            let _ = mailbox.tell_stop(rt);
+            let _ = mailbox.wake_to_stop(rt);
         }
         self.listener.stop();
     }
 
-    // Does what control sessions ask for, until connections have ended and each writer was sent the position that was taken, or the
-    // time is over.
-    fn await_connections<R: Wait + Clock>(
+    // Does what control sessions ask for, until connections have ended, and then control sessions, or the time is over.
+    fn await_ends<R: Wait + Clock>(
         &self,
         rt: &R,
         alloc: Global,
@@ -83,9 +98,9 @@ impl Stopping {
         ensures runs { RunsCommands live.old live.new }
         ensures same { tablets_in live.new ≡ tablets_in live.old }
     {
-        let began = Instant::now(rt).ok();
+        let mut stage = Stage::new(rt, false);
         for _ in rt.forever() {
-            if controls.is_stop_over(rt) || self.have_connections_ended(rt, &began) {
+            if self.end_stage(rt, controls, &mut stage) {
                 return;
             }
             take_commands_for(
@@ -100,13 +115,41 @@ impl Stopping {
         unreachable!()
     }
 
-    // Whether all threads that answer connections have ended, and each writer was sent the position that was taken, or has had its
+    // Ends control sessions where the first stage is over. Whether the last is.
+    fn end_stage<R: Wait + Clock>(
+        &self,
+        rt: &R,
+        controls: &ControlMailboxes,
+        stage: &mut Stage,
+    ) -> bool {
+        if !self.is_over(rt, controls, stage) {
+            return false;
+        }
+        if stage.is_last {
+            return true;
+        }
+        self.end_controls(rt);
+        *stage = Stage::new(rt, true);
+        self.is_over(rt, controls, stage)
+    }
+
+    // Whether a stage is over: those that it waits for have ended, or have had their time.
+    fn is_over<R: Wait + Clock>(&self, rt: &R, controls: &ControlMailboxes, stage: &Stage) -> bool {
+        if stage.is_last {
+            have_clients_ended(rt, &self.clients)
+                || (controls.is_stop_over(rt) && has_passed(rt, &stage.began, CLOSING))
+        } else {
+            controls.is_stop_over(rt) || self.have_connections_ended(rt, &stage.began)
+        }
+    }
+
+    // Whether all threads that answer connections have ended, and each publisher was sent the position that was taken, or has had its
     // time for that.
     fn have_connections_ended<R: Wait + Clock>(&self, rt: &R, began: &Option<Instant>) -> bool {
         have_ended(rt, &self.mailboxes) && (self.are_told(rt) || has_passed(rt, began, TELLING))
     }
 
-    // Whether each writer was sent the position that was taken of its stream.
+    // Whether each publisher was sent the position that was taken of its stream.
     fn are_told<R: Wait>(&self, rt: &R) -> bool {
         for stream in self.counters.streams.iter() {
             if is_behind(rt, stream) {
@@ -132,7 +175,7 @@ impl Stopping {
             client.cut(rt);
         }
         for mailbox in self.mailboxes.iter() {
-            let _ = mailbox.tell_cut(rt);
+            let _ = mailbox.wake_to_cut(rt);
         }
         for _ in 0..CUTTING / CUT_STEP {
             if are_silent(rt, &self.mailboxes) {
@@ -141,42 +184,12 @@ impl Stopping {
             thread::sleep(rt, Duration::from_millis(CUT_STEP));
         }
     }
-
-    // Does what control sessions ask for until they have ended, or the time is over, and a moment for them.
-    fn await_controls<R: Wait + Clock>(
-        &self,
-        rt: &R,
-        alloc: Global,
-        live: &mut LiveRegion,
-        controls: &ControlMailboxes,
-        asked: &StopAsked,
-    )
-        ensures runs { RunsCommands live.old live.new }
-        ensures same { tablets_in live.new ≡ tablets_in live.old }
-    {
-        let began = Instant::now(rt).ok();
-        for _ in rt.forever() {
-            let is_over = controls.is_stop_over(rt) && has_passed(rt, &began, CLOSING);
-            if is_over || have_clients_ended(rt, &self.clients) {
-                return;
-            }
-            take_commands_for(
-                rt,
-                alloc,
-                live,
-                controls,
-                asked,
-                Duration::from_millis(STEP),
-            );
-        }
-        unreachable!()
-    }
 }
 
-// Whether the writer of a stream was not yet sent the position that was taken.
+// Whether the publisher of a stream was not yet sent the position that was taken.
 fn is_behind<R: Wait>(rt: &R, stream: &StreamCounters) -> bool {
-    match (&stream.taken, &stream.told, &stream.status) {
-        (Some(taken), Some(told), Some(status)) => told.get() < taken.get() && status.is_open(rt),
+    match (&stream.taken, &stream.sent, &stream.status) {
+        (Some(taken), Some(sent), Some(status)) => sent.get() < taken.get() && status.is_open(rt),
         _ => false,
     }
 }

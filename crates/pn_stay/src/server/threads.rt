@@ -2,8 +2,8 @@
 
 ghost use Rattle.std.specs.Prelude.{◌≡◌, ◌+◌, ◌≤◌, vec_len, vec_capacity, All, IfOk};
 ghost use Rattle.pn_live.specs.Prelude.{tablets_in, tablets_of};
-ghost use Rattle.pn_serve.specs.Server.Sessions.{AllRead};
-ghost use Rattle.pn_serve.specs.Session.Knowing.{KnowsNoLess};
+ghost use Rattle.pn_serve.specs.Server.Events.{AllRead};
+ghost use Rattle.pn_serve.specs.Session.Resuming.{KnowsNoLess};
 
 use crate::acceptor::SocketAcceptor;
 use crate::bounded_reader::BoundedReader;
@@ -132,7 +132,7 @@ struct EndedThread {
 /// What goes to a thread. Its type is a parameter where the thread starts, so that its bound says that it may.
 trait ThreadBody {
     ghost use Rattle.pn_live.specs.Prelude.{LiveReaderValue};
-    ghost use Rattle.pn_serve.specs.Session.Knowing.{KnowsNoLess};
+    ghost use Rattle.pn_serve.specs.Session.Resuming.{KnowsNoLess};
 
     // The reader that it begins with.
     ghost reader: { Self → LiveReaderValue };

@@ -1,7 +1,7 @@
-//! Streams from a FIFO: its descriptor is kept, and read on once another writer writes.
+//! Streams from a FIFO: its descriptor is kept, and read on once another publisher writes.
 
 ghost use Rattle.std.specs.Prelude.{◌≡◌, ◌↔◌, Some, IsFalse};
-ghost use Rattle.pn_serve.specs.declared.server.writers.WriterEnd.TheVariants.{End};
+ghost use Rattle.pn_serve.specs.declared.server.publishers.PublisherEnd.TheVariants.{End};
 
 use crate::seldom::Seldom;
 use crate::socket_file::FileIdentity;
@@ -12,7 +12,7 @@ use crate::streams::input::{
 use crate::streams::notes::{OpenStream, StreamNotes};
 use crate::streams::turns::Turns;
 use pn_line::Source;
-use pn_serve::WriterEnd;
+use pn_serve::PublisherEnd;
 use std::fs::{File, Files};
 use std::net::Net;
 use std::os::fd::{AsRawFd, RawFd};
@@ -23,12 +23,12 @@ use std::{fs, io, thread};
 /// How many milliseconds lie between two tries of what the system refused.
 const RETRY: u64 = 500;
 
-/// The writers of a FIFO.
+/// The publishers of a FIFO.
 #[derive(Drop)]
-pub(crate) struct FifoWriters<R: Drop> {
+pub(crate) struct FifoPublishers<R: Drop> {
     path: String,
     poll: FifoPoll,
-    // What the last writer was read from, and whether it wrote what is at fault.
+    // What the last publisher was read from, and whether it wrote what is at fault.
     last: Option<StreamSource<R>>,
     is_faulty: bool,
     // The descriptor of the FIFO that is open, and which file it is.
@@ -37,13 +37,13 @@ pub(crate) struct FifoWriters<R: Drop> {
     refusals: Seldom,
 }
 
-impl<R> FifoWriters<R>
+impl<R> FifoPublishers<R>
 where
     R: Files<File = File> + Net + Wait + Clock + Copy + Drop,
 {
-    /// The writers of the FIFO at a path, which is not opened so far.
-    pub(crate) fn new(path: String, poll: FifoPoll) -> FifoWriters<R> {
-        FifoWriters {
+    /// The publishers of the FIFO at a path, which is not opened so far.
+    pub(crate) fn new(path: String, poll: FifoPoll) -> FifoPublishers<R> {
+        FifoPublishers {
             path,
             poll,
             last: None,
@@ -54,8 +54,11 @@ where
         }
     }
 
-    /// Waits for the next writer that writes anything.
-    pub(crate) fn next_writer(&mut self, notes: &StreamNotes<R>) -> (StreamSource<R>, OpenStream) {
+    /// Waits for the next publisher that writes anything.
+    pub(crate) fn next_publisher(
+        &mut self,
+        notes: &StreamNotes<R>,
+    ) -> (StreamSource<R>, OpenStream) {
         for _ in notes.rt.forever() {
             let source = match self.last.take() {
                 Some(source) if self.is_faulty => drop_read(source),
@@ -70,12 +73,12 @@ where
         unreachable!()
     }
 
-    /// Keeps what a writer was read from.
-    pub(crate) fn end_writer(&mut self, source: StreamSource<R>, end: &WriterEnd)
+    /// Keeps what a publisher was read from.
+    pub(crate) fn end_publisher(&mut self, source: StreamSource<R>, end: &PublisherEnd)
         ensures faulty { IsFalse self.new.is_faulty ↔ (end.now ≡ End) }
         ensures kept { self.new.last ≡ Some source }
     {
-        self.is_faulty = matches!(end, WriterEnd::Fault { .. });
+        self.is_faulty = matches!(end, PublisherEnd::Fault { .. });
         self.last = Some(source);
     }
 
@@ -86,12 +89,12 @@ where
             match self.try_open(notes) {
                 Ok(source) => {
                     if is_again {
-                        notes.tell_path("is opened again at", self.path.as_str());
+                        notes.leave_path("is opened again at", self.path.as_str());
                     }
                     return source;
                 }
                 Err(error) => {
-                    self.tell_refusal(notes, "open", &error);
+                    self.leave_refusal(notes, "open", &error);
                     thread::sleep(&notes.rt, Duration::from_millis(RETRY));
                 }
             }
@@ -104,11 +107,16 @@ where
         let identity = FileIdentity::of(&file.metadata()?);
         self.opened = Some((file.as_raw_fd(), identity));
         let input = StreamInput::File(file);
-        open_source(notes.teller.alloc, input, FILE_READ_SIZE, &notes.counters)
+        open_source(
+            notes.messenger.alloc,
+            input,
+            FILE_READ_SIZE,
+            &notes.counters,
+        )
     }
 
-    // Waits until another writer has written. What is left of one that wrote a fault is dropped. None: the path leads to another
-    // FIFO, and the one that is open has no writer.
+    // Waits until another publisher has written. What is left of one that wrote a fault is dropped. None: the path leads to another
+    // FIFO, and the one that is open has no publisher.
     fn wait_for_next(
         &mut self,
         notes: &StreamNotes<R>,
@@ -130,9 +138,9 @@ where
                     }
                     self.wait(notes);
                 }
-                AtHand::Writer => {
+                AtHand::Publisher => {
                     if self.is_replaced(notes) {
-                        self.tell_left(notes);
+                        self.leave_waiting(notes);
                     }
                     self.wait(notes);
                 }
@@ -164,7 +172,7 @@ where
         match fs::metadata(&notes.rt, self.path.as_str()) {
             Ok(found) => FileIdentity::of(&found) != identity,
             Err(error) => {
-                self.tell_refusal(notes, "open", &error);
+                self.leave_refusal(notes, "open", &error);
                 false
             }
         }
@@ -174,24 +182,24 @@ where
     fn wait(&mut self, notes: &StreamNotes<R>) {
         self.turns.look(notes);
         if let Err(error) = self.poll.wait() {
-            self.tell_refusal(notes, "wait for", &error);
+            self.leave_refusal(notes, "wait for", &error);
             thread::sleep(&notes.rt, Duration::from_millis(RETRY));
         }
     }
 
-    // Tells that a writer of the FIFO that was at the path is waited for.
-    fn tell_left(&mut self, notes: &StreamNotes<R>) {
+    // Leaves a message that a publisher of the FIFO that was at the path is waited for.
+    fn leave_waiting(&mut self, notes: &StreamNotes<R>) {
         if self.refusals.is_due(&notes.rt) {
-            notes.tell_path(
+            notes.leave_path(
                 "waits for a writer of the FIFO that was at",
                 self.path.as_str(),
             );
         }
     }
 
-    fn tell_refusal(&mut self, notes: &StreamNotes<R>, verb: &str, error: &io::Error) {
+    fn leave_refusal(&mut self, notes: &StreamNotes<R>, verb: &str, error: &io::Error) {
         if self.refusals.is_due(&notes.rt) {
-            notes.tell_error(verb, self.path.as_str(), error);
+            notes.leave_error(verb, self.path.as_str(), error);
         }
     }
 }

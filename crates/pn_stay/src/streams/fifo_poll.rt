@@ -1,4 +1,4 @@
-//! FIFOs that are opened, looked at and waited for without waiting for a writer.
+//! FIFOs that are opened, looked at and waited for without waiting for a publisher.
 
 ghost use Rattle.std.specs.Prelude.{◌≡◌, false, true};
 
@@ -19,7 +19,7 @@ use std::time::Duration;
 /// How many events one wait gives at most.
 const EVENTS: usize = 1;
 
-/// Reports when a FIFO was written, or its writers went.
+/// Reports when a FIFO was written, or its publishers went.
 #[derive(Drop)]
 pub(crate) struct FifoPoll {
     poll: Poll,
@@ -29,10 +29,9 @@ pub(crate) struct FifoPoll {
 impl FifoPoll {
     /// A poll of no FIFO.
     pub(crate) fn new<R: Net>(rt: &R, alloc: Global) -> io::Result<FifoPoll> {
-        Ok(FifoPoll {
-            poll: Poll::new(rt)?,
-            events: Events::with_capacity(alloc, EVENTS)?,
-        })
+        let poll = Poll::new(rt)?;
+        let events = Events::with_capacity(alloc, EVENTS)?;
+        Ok(FifoPoll { poll, events })
     }
 
     fn add(&self, fifo: &File) -> io::Result<()> {
@@ -53,8 +52,8 @@ impl FifoPoll {
 pub(crate) enum AtHand {
     /// Bytes that were written.
     Bytes,
-    /// A writer that has written nothing since.
-    Writer,
+    /// A publisher that has written nothing since.
+    Publisher,
     Nobody,
 }
 
@@ -72,20 +71,20 @@ pub(crate) fn look_at(number: RawFd) -> AtHand {
     )
 }
 
-// What is at hand where the system reports that there are bytes, or that all writers have gone.
+// What is at hand where the system reports that there are bytes, or that all publishers have gone.
 fn name_reports(has_bytes: bool, is_left: bool) -> AtHand
     ensures bytes { has_bytes ≡ true → result ≡ AtHand.Bytes }
-    ensures writer { has_bytes ≡ false → is_left ≡ false → result ≡ AtHand.Writer }
+    ensures publisher { has_bytes ≡ false → is_left ≡ false → result ≡ AtHand.Publisher }
     ensures nobody { has_bytes ≡ false → is_left ≡ true → result ≡ AtHand.Nobody }
 {
     match (has_bytes, is_left) {
         (true, _) => AtHand::Bytes,
-        (false, false) => AtHand::Writer,
+        (false, false) => AtHand::Publisher,
         (false, true) => AtHand::Nobody,
     }
 }
 
-/// Opens the FIFO at a path to be read, and adds it to a poll. It waits for no writer, unless the FIFO may only be read.
+/// Opens the FIFO at a path to be read, and adds it to a poll. It waits for no publisher, unless the FIFO may only be read.
 pub(crate) fn open_fifo<R: Files<File = File>>(
     rt: &R,
     path: &str,
@@ -94,7 +93,7 @@ pub(crate) fn open_fifo<R: Files<File = File>>(
     if !rt.metadata(path)?.file_type().is_fifo() {
         return Err(io::Error::new(ErrorKind::InvalidInput, "it is no FIFO"));
     }
-    // A FIFO that is open for writing, too, has a writer.
+    // A FIFO that is open for writing, too, has a publisher.
     let _writer = OpenOptions::new().read(true).write(true).open(rt, path);
     let file = File::open(rt, path)?;
     poll.add(&file)?;

@@ -1,14 +1,17 @@
-//! What streams are read from.
+//! What streams are read from, and how files are opened, each of which is read once.
 
 ghost use Rattle.std.specs.Io.{ReadsAtMost};
+ghost use Rattle.std.specs.Prelude.{◌≡◌, [], ◌∷◌, ◌++◌, map, All, IfOk, OnOk};
 
-use crate::counters::{CountingSource, InputCounters};
+use crate::counters::{CountingSource, InputCounters, StreamCounters};
 use crate::interrupts::is_interrupted;
-use crate::shared::share;
-use crate::streams::broker::BrokerListener;
 use crate::streams::message_input::{MessageInput, READ_SIZE};
-use crate::streams::writer::WriterSocket;
-use std::alloc::Global;
+use crate::streams::origin::BrokerListener;
+use crate::streams::publisher::PublisherSocket;
+use pn_join::Name;
+use pn_serve::{StreamPath, share};
+use pn_stream::StreamReader;
+use std::alloc::{AllocError, AllocFailed, Global};
 use std::fs::{File, Files};
 use std::io;
 use std::io::{BufRead, BufReader, Read};
@@ -22,19 +25,19 @@ pub(crate) const FILE_READ_SIZE: usize = 1_048_576;
 /// How many bytes of a socket are read at a time.
 pub(crate) const SOCKET_READ_SIZE: usize = READ_SIZE;
 
-/// The socket of a writer, without what the writer says of its stream.
-pub type SocketInput<R> = MessageInput<WriterSocket<R>, BrokerListener<R>>;
+/// The socket of a publisher, without what the publisher says of its stream.
+pub type SocketInput<R> = MessageInput<PublisherSocket<R>, BrokerListener<R>>;
 
-/// What a stream's writer is read from.
+/// What a stream's publisher is read from.
 #[derive(Drop)]
 pub enum StreamInput<R: Drop> {
     /// A file, or a FIFO.
     File(File),
-    /// The socket of a writer.
+    /// The socket of a publisher.
     Socket(SocketInput<R>),
 }
 
-/// A writer's input, of which is counted what is read.
+/// A publisher's input, of which is counted what is read.
 pub type StreamSource<R> = CountingSource<BufReader<StreamInput<R>>>;
 
 impl<R: Files<File = File> + Net + Wait + Clock + Drop> Read for StreamInput<R> {
@@ -93,4 +96,127 @@ where
     };
     reader.consume(count);
     (CountingSource::new(reader, counters), count > 0)
+}
+
+/// What a stream that is a file is read from.
+pub type FileSource = CountingSource<BufReader<File>>;
+
+/// Streams that are files.
+#[derive(Drop)]
+pub struct OpenedFiles {
+    pub readers: Vec<StreamReader<FileSource>>,
+    /// The counters of the streams that are counted.
+    pub counters: Vec<StreamCounters>,
+}
+
+/// Why the streams were not opened.
+#[derive(Drop)]
+pub enum StreamOpenFault {
+    /// The system refuses the path of the stream of this name.
+    Path {
+        name: Name,
+        path: String,
+        error: io::Error,
+    },
+    Memory,
+}
+
+impl StreamOpenFault {
+    /// The system refuses a path.
+    pub(crate) fn of(name: Name, path: String, error: io::Error) -> StreamOpenFault {
+        StreamOpenFault::Path { name, path, error }
+    }
+}
+
+impl From<AllocError> for StreamOpenFault {
+    fn from(_fault: AllocError) -> StreamOpenFault {
+        StreamOpenFault::Memory
+    }
+}
+
+impl<T: Drop> From<AllocFailed<T>> for StreamOpenFault {
+    fn from(_fault: AllocFailed<T>) -> StreamOpenFault {
+        StreamOpenFault::Memory
+    }
+}
+
+/// Opens the files of streams in their order.
+pub fn open_files<R: Files<File = File>>(
+    rt: &R,
+    alloc: Global,
+    streams: Vec<(Name, StreamPath)>,
+    is_counted: bool,
+) -> Result<OpenedFiles, StreamOpenFault>
+    ensures names { IfOk result (λ opened. map (λ reader. reader.name) opened.readers.items ≡ map (λ stream. stream.0) streams.items) }
+    ensures first { IfOk result (λ opened. All (λ reader. reader.position ≡ 0) opened.readers.items) }
+{
+    let readers = Vec::with_capacity(alloc, streams.len())?;
+    let mut opened = OpenedFiles {
+        readers,
+        counters: Vec::new(alloc),
+    };
+    for (name, path) in streams {
+        let counters = new_counters(alloc, is_counted)?;
+        open_file(rt, alloc, &mut opened, (name, path), counters)?;
+    }
+    Ok(opened)
+}
+
+fn open_file<R: Files<File = File>>(
+    rt: &R,
+    alloc: Global,
+    opened: &mut OpenedFiles,
+    stream: (Name, StreamPath),
+    counters: Option<Arc<InputCounters>>,
+) -> Result<(), StreamOpenFault>
+    requires { All (λ reader. reader.position ≡ 0) opened.old.readers.items }
+    ensures first { OnOk result (All (λ reader. reader.position ≡ 0) opened.new.readers.items) }
+    ensures names { OnOk result (map (λ reader. reader.name) opened.new.readers.items ≡ map (λ reader. reader.name) opened.old.readers.items ++ stream.0 ∷ []) }
+{
+    let (name, path) = stream;
+    let path = match path {
+        StreamPath::File(path) | StreamPath::Listen(path) => path,
+    };
+    let file = match File::open(rt, path.as_str()) {
+        Ok(file) => file,
+        Err(error) => return Err(StreamOpenFault::of(name, path, error)),
+    };
+    let size = read_size(&file);
+    let Ok(source) = open_source(alloc, file, FILE_READ_SIZE, &counters) else {
+        return Err(StreamOpenFault::Memory);
+    };
+    if let Some(input) = counters {
+        opened.counters.push(StreamCounters {
+            name,
+            input,
+            taken: None,
+            sent: None,
+            status: None,
+            size,
+        })?;
+    }
+    opened
+        .readers
+        .push(StreamReader::new(alloc, name, 0, source))?;
+    Ok(())
+}
+
+/// How many bytes a file has, where it ends.
+pub(crate) fn read_size(file: &File) -> Option<u64> {
+    match file.metadata() {
+        Ok(metadata) if metadata.is_file() => Some(metadata.len()),
+        _ => None,
+    }
+}
+
+/// New counters, where somebody is to look at them.
+pub(crate) fn new_counters(
+    alloc: Global,
+    is_counted: bool,
+) -> Result<Option<Arc<InputCounters>>, AllocError> {
+    if is_counted {
+        Ok(Some(Arc::new(alloc, InputCounters::new())?))
+    } else {
+        Ok(None)
+    }
 }

@@ -1,8 +1,8 @@
-//! The socket at which a stream's writers come.
+//! The socket at which a stream's publishers come.
 
 use crate::seldom::Seldom;
 use crate::socket_file::{ListenFault, SocketFile};
-use crate::streams::notes::StreamTeller;
+use crate::streams::notes::StreamMessenger;
 use libc::net::{SO_RCVTIMEO, SOL_SOCKET, setsockopt};
 use pn_lines::is_wait;
 use std::alloc::{AllocError, Global};
@@ -17,15 +17,12 @@ use std::time::Clock;
 /// How many milliseconds at most pass until the path of a socket or FIFO is looked at again.
 pub(crate) const LOOK: u64 = 500;
 
-/// The same in microseconds.
-const LOOK_MICROSECONDS: i64 = 500_000;
-
-/// The socket of a stream. One of its writers is read at a time, and the others wait. Where its file is removed or replaced, it
+/// The socket of a stream. One of its publishers is read at a time, and the others wait. Where its file is removed or replaced, it
 /// is made again.
 #[derive(Drop)]
 pub struct StreamListener {
     file: Arc<SocketFile>,
-    teller: StreamTeller,
+    messenger: StreamMessenger,
     now: Mutex<ListeningNow>,
 }
 
@@ -43,13 +40,13 @@ impl StreamListener {
         alloc: Global,
         path: &str,
         permissions: u32,
-        teller: StreamTeller,
+        messenger: StreamMessenger,
     ) -> Result<StreamListener, ListenFault> {
         let (file, listener) = SocketFile::bind(rt, alloc, path, permissions)?;
         limit_wait(&listener);
         Ok(StreamListener {
             file,
-            teller,
+            messenger,
             now: Mutex::new(ListeningNow {
                 listener,
                 refusals: Seldom::new(),
@@ -62,7 +59,7 @@ impl StreamListener {
         Arc::try_clone(&self.file)
     }
 
-    /// Waits for a writer, but not for long. None: none has come.
+    /// Waits for a publisher, but not for long. None: none has come.
     pub(crate) fn accept<R: Wait>(&self, rt: &R) -> io::Result<Option<UnixStream>> {
         let now = self.now.lock(rt);
         match now.listener.accept() {
@@ -81,23 +78,23 @@ impl StreamListener {
             Ok(Some(listener)) => {
                 limit_wait(&listener);
                 now.listener = listener;
-                self.teller
-                    .tell_path(rt, "listens again at", self.file.path());
+                self.messenger
+                    .leave_path(rt, "listens again at", self.file.path());
             }
             Err(error) => {
                 if now.refusals.is_due(rt) {
-                    self.teller
-                        .tell_error(rt, "listen for", self.file.path(), &error);
+                    self.messenger
+                        .leave_error(rt, "listen for", self.file.path(), &error);
                 }
             }
         }
     }
 }
 
-// From now on an `accept` ends without a writer once it has waited for long enough.
+// From now on an `accept` ends without a publisher once it has waited for long enough.
 fn limit_wait(listener: &UnixListener) {
     let mut time = [0u8; 16];
-    time[8..].copy_from_slice(&LOOK_MICROSECONDS.to_ne_bytes());
+    time[8..].copy_from_slice(&(LOOK * 1_000).to_ne_bytes());
     let number = listener.as_raw_fd();
     let _ = unsafe { setsockopt(number, SOL_SOCKET, SO_RCVTIMEO, &time, 16) };
 }

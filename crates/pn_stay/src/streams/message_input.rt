@@ -1,9 +1,8 @@
-//! A writer's input without what it says of its stream: the rest are messages, byte for byte.
+//! A publisher's input without what it says of its stream: the rest are messages, byte for byte.
 
 ghost use Rattle.std.specs.Prelude.{◌≡◌, ◌≤◌, [], drop, false, length, vec_len, IfOk};
 
-use crate::streams::message_steps::{Step, may_go_on_as, next_step};
-use crate::streams::remarks::{RemarkFault, STREAM, read_stream};
+use crate::streams::remarks::{RemarkFault, STREAM, Step, may_go_on_as, next_step, read_stream};
 use memchr::memchr;
 use pn_line::MAX_LINE_BYTES;
 use std::alloc::{AllocError, Global};
@@ -25,7 +24,7 @@ pub trait NewestListener {
     fn await_memory(&self);
 }
 
-/// A writer's input. What it says of its stream is heard, and not given on.
+/// A publisher's input. What it says of its stream is heard, and not given on.
 #[derive(Drop)]
 pub struct MessageInput<I: Drop, L: Drop> {
     alloc: Global,
@@ -45,7 +44,7 @@ struct Passed {
 }
 
 impl<I: Read + Drop, L: NewestListener + Drop> MessageInput<I, L> {
-    /// The input of a writer, of which nothing was read.
+    /// The input of a publisher, of which nothing was read.
     pub(crate) fn new(
         alloc: Global,
         input: I,
@@ -55,11 +54,12 @@ impl<I: Read + Drop, L: NewestListener + Drop> MessageInput<I, L> {
         ensures held { IfOk result (λ made. made.held.items ≡ []) }
         ensures inside { IfOk result (λ made. made.is_inside ≡ false) }
     {
+        let held = Vec::with_capacity(alloc, MAX_LINE_BYTES + READ_SIZE)?;
         Ok(MessageInput {
             alloc,
             input,
             listener,
-            held: Vec::with_capacity(alloc, MAX_LINE_BYTES + READ_SIZE)?,
+            held,
             is_inside: false,
         })
     }
@@ -76,7 +76,7 @@ impl<I: Read + Drop, L: NewestListener + Drop> MessageInput<I, L> {
         self.input
     }
 
-    /// Waits for the first line, and takes it if it says whose stream the writer's is.
+    /// Waits for the first line, and takes it if it says whose stream the publisher's is.
     pub(crate) fn take_stream(&mut self) -> io::Result<Option<String>>
         ensures inside { self.new.is_inside ≡ self.old.is_inside }
     {

@@ -4,20 +4,20 @@ ghost use Rattle.std.specs.Prelude.{◌≡◌, [], ◌∷◌, ◌++◌, map, IfO
 
 use crate::counters::StreamCounters;
 use crate::messages::Messages;
-use crate::shared::share;
 use crate::socket_file::{ListenFault, SocketFile, format_lock, remove_sockets};
-use crate::streams::fifo::FifoWriters;
+use crate::streams::fifo::FifoPublishers;
 use crate::streams::fifo_poll::FifoPoll;
-use crate::streams::files::{StreamOpenFault, new_counters, read_size};
-use crate::streams::input::{FILE_READ_SIZE, StreamInput, open_source};
+use crate::streams::input::{
+    FILE_READ_SIZE, StreamInput, StreamOpenFault, new_counters, open_source, read_size,
+};
 use crate::streams::listener::StreamListener;
-use crate::streams::notes::{StreamNotes, StreamTeller};
-use crate::streams::origin::{StreamOrigin, Writers};
-use crate::streams::sockets::SocketWriters;
+use crate::streams::notes::{StreamMessenger, StreamNotes};
+use crate::streams::origin::{Publishers, StreamOrigin};
+use crate::streams::publisher::StreamPositions;
+use crate::streams::sockets::SocketPublishers;
 use crate::streams::status::StreamStatus;
-use crate::streams::writer::StreamPositions;
 use pn_join::Name;
-use pn_serve::{Counter, ShownMark, Stream, StreamPath};
+use pn_serve::{Counter, ShownMark, Stream, StreamPath, share};
 use std::alloc::{AllocError, Global};
 use std::fs::{File, Files};
 use std::net::Net;
@@ -32,12 +32,12 @@ pub struct OpenedStreams<R: Drop> {
     pub streams: Vec<Stream<StreamOrigin<R>>>,
     /// The counters of the streams that are counted.
     pub counters: Vec<StreamCounters>,
-    /// The files of the sockets at which writers come.
+    /// The files of the sockets at which publishers come.
     pub sockets: Vec<Arc<SocketFile>>,
 }
 
-// The writers of a stream, and how many bytes its file has, where it ends.
-type OpenedWriters<R> = Result<(Writers<R>, Option<u64>), StreamOpenFault>;
+// The publishers of a stream, and how many bytes its file has, where it ends.
+type OpenedPublishers<R> = Result<(Publishers<R>, Option<u64>), StreamOpenFault>;
 
 /// Where messages about streams go, whether what is read of them is counted, and the permissions of their sockets.
 #[derive(Drop)]
@@ -49,7 +49,7 @@ pub struct StreamSetting<R> {
     pub socket_mode: u32,
 }
 
-/// Opens streams in their order, and waits for no writer. After a fault the sockets are removed.
+/// Opens streams in their order, and waits for no publisher. After a fault the sockets are removed.
 pub fn open_origins<R>(
     setting: &StreamSetting<R>,
     streams: Vec<(Name, StreamPath)>,
@@ -58,8 +58,9 @@ where
     R: Files<File = File> + Net + Wait + Clock + Copy + Drop,
     ensures names { IfOk result (λ opened. map (λ stream. stream.name) opened.streams.items ≡ map (λ stream. stream.0) streams.items) }
 {
+    let room = Vec::with_capacity(setting.alloc, streams.len())?;
     let mut opened = OpenedStreams {
-        streams: Vec::with_capacity(setting.alloc, streams.len())?,
+        streams: room,
         counters: Vec::new(setting.alloc),
         sockets: Vec::new(setting.alloc),
     };
@@ -83,8 +84,8 @@ where
     ensures names { OnOk result (map (λ stream. stream.name) opened.new.streams.items ≡ map (λ stream. stream.name) opened.old.streams.items ++ name ∷ []) }
 {
     let notes = new_notes(setting, name, &path)?;
-    let (writers, size) = open_writers(setting, &notes, path, &mut opened.sockets)?;
-    add_origin(opened, name, StreamOrigin { notes, writers }, size)
+    let (publishers, size) = open_publishers(setting, &notes, path, &mut opened.sockets)?;
+    add_origin(opened, name, StreamOrigin { notes, publishers }, size)
 }
 
 // Adds a stream and its counters.
@@ -115,14 +116,14 @@ fn add_counters<R: Drop>(
 ) -> Result<Arc<ShownMark>, AllocError> {
     let notes = &origin.notes;
     if let Some(input) = share(&notes.counters)? {
-        let told = share_told(notes, &origin.writers)?;
+        let sent = share_sent(notes, &origin.publishers)?;
         let taken = Some(Arc::try_clone(&notes.positions.taken)?);
         let status = share(&notes.status)?;
         counters.push(StreamCounters {
-            name: notes.teller.name,
+            name: notes.messenger.name,
             input,
             taken,
-            told,
+            sent,
             status,
             size,
         })?;
@@ -130,14 +131,14 @@ fn add_counters<R: Drop>(
     Arc::try_clone(&notes.positions.taken)
 }
 
-// Shares the position that a writer was sent last, where writers are sent positions.
-fn share_told<R: Drop>(
+// Shares the position that a publisher was sent last, where publishers are sent positions.
+fn share_sent<R: Drop>(
     notes: &StreamNotes<R>,
-    writers: &Writers<R>,
+    publishers: &Publishers<R>,
 ) -> Result<Option<Arc<Counter>>, AllocError> {
-    match writers {
-        Writers::Socket(_) => Ok(Some(Arc::try_clone(&notes.positions.told)?)),
-        Writers::File(_) | Writers::Fifo(_) => Ok(None),
+    match publishers {
+        Publishers::Socket(_) => Ok(Some(Arc::try_clone(&notes.positions.sent)?)),
+        Publishers::File(_) | Publishers::Fifo(_) => Ok(None),
     }
 }
 
@@ -153,7 +154,7 @@ fn new_notes<R: Copy>(
     let positions = StreamPositions::new(alloc)?;
     Ok(StreamNotes {
         rt: setting.rt,
-        teller: StreamTeller {
+        messenger: StreamMessenger {
             alloc,
             name,
             messages,
@@ -180,25 +181,25 @@ fn new_status(
     Ok(Some(Arc::new(alloc, status)?))
 }
 
-// The writers that come to a path, and how many bytes its file has, where it ends. A socket's file is added.
-fn open_writers<R>(
+// The publishers that come to a path, and how many bytes its file has, where it ends. A socket's file is added.
+fn open_publishers<R>(
     setting: &StreamSetting<R>,
     notes: &StreamNotes<R>,
     path: StreamPath,
     sockets: &mut Vec<Arc<SocketFile>>,
-) -> OpenedWriters<R>
+) -> OpenedPublishers<R>
 where
     R: Files<File = File> + Net + Wait + Clock + Copy + Drop,
 {
     match path {
         StreamPath::Listen(path) => {
-            let writers = listen(notes, path, setting.socket_mode, sockets)?;
-            Ok((writers, None))
+            let publishers = listen(notes, path, setting.socket_mode, sockets)?;
+            Ok((publishers, None))
         }
         StreamPath::File(path) => match is_fifo(&notes.rt, path.as_str()) {
             Ok(true) => open_fifo(notes, path),
             Ok(false) => open_file(notes, path),
-            Err(error) => Err(StreamOpenFault::of(notes.teller.name, path, error)),
+            Err(error) => Err(StreamOpenFault::of(notes.messenger.name, path, error)),
         },
     }
 }
@@ -208,18 +209,18 @@ fn listen<R>(
     path: String,
     permissions: u32,
     sockets: &mut Vec<Arc<SocketFile>>,
-) -> Result<Writers<R>, StreamOpenFault>
+) -> Result<Publishers<R>, StreamOpenFault>
 where
     R: Files<File = File> + Net + Wait + Clock + Copy + Drop,
 {
-    let teller = notes.teller.try_clone()?;
-    let alloc = teller.alloc;
+    let messenger = notes.messenger.try_clone()?;
+    let alloc = messenger.alloc;
     sockets.reserve(1)?;
-    match StreamListener::bind(&notes.rt, alloc, path.as_str(), permissions, teller) {
+    match StreamListener::bind(&notes.rt, alloc, path.as_str(), permissions, messenger) {
         Ok(listener) => {
             sockets.push(listener.share_file()?)?;
             let listener = Arc::new(alloc, listener)?;
-            Ok(Writers::Socket(SocketWriters::new(listener, path)))
+            Ok(Publishers::Socket(SocketPublishers::new(listener, path)))
         }
         Err(fault) => Err(refuse_socket(notes, path, fault)?),
     }
@@ -231,11 +232,11 @@ fn refuse_socket<R>(
     path: String,
     fault: ListenFault,
 ) -> Result<StreamOpenFault, AllocError> {
-    let name = notes.teller.name;
+    let name = notes.messenger.name;
     match fault {
         ListenFault::Path(error) => Ok(StreamOpenFault::of(name, path, error)),
         ListenFault::Lock(error) => {
-            let lock = format_lock(notes.teller.alloc, path.as_str())?;
+            let lock = format_lock(notes.messenger.alloc, path.as_str())?;
             Ok(StreamOpenFault::of(name, lock, error))
         }
     }
@@ -245,17 +246,17 @@ fn is_fifo<R: Files>(rt: &R, path: &str) -> io::Result<bool> {
     Ok(fs::metadata(rt, path)?.file_type().is_fifo())
 }
 
-fn open_fifo<R>(notes: &StreamNotes<R>, path: String) -> OpenedWriters<R>
+fn open_fifo<R>(notes: &StreamNotes<R>, path: String) -> OpenedPublishers<R>
 where
     R: Files<File = File> + Net + Wait + Clock + Copy + Drop,
 {
-    match FifoPoll::new(&notes.rt, notes.teller.alloc) {
-        Ok(poll) => Ok((Writers::Fifo(FifoWriters::new(path, poll)), None)),
-        Err(error) => Err(StreamOpenFault::of(notes.teller.name, path, error)),
+    match FifoPoll::new(&notes.rt, notes.messenger.alloc) {
+        Ok(poll) => Ok((Publishers::Fifo(FifoPublishers::new(path, poll)), None)),
+        Err(error) => Err(StreamOpenFault::of(notes.messenger.name, path, error)),
     }
 }
 
-fn open_file<R>(notes: &StreamNotes<R>, path: String) -> OpenedWriters<R>
+fn open_file<R>(notes: &StreamNotes<R>, path: String) -> OpenedPublishers<R>
 where
     R: Files<File = File> + Net + Wait + Clock + Copy + Drop,
 {
@@ -263,11 +264,16 @@ where
         Ok(file) => {
             let size = read_size(&file);
             let input = StreamInput::File(file);
-            match open_source(notes.teller.alloc, input, FILE_READ_SIZE, &notes.counters) {
-                Ok(source) => Ok((Writers::File(Some(source)), size)),
+            match open_source(
+                notes.messenger.alloc,
+                input,
+                FILE_READ_SIZE,
+                &notes.counters,
+            ) {
+                Ok(source) => Ok((Publishers::File(Some(source)), size)),
                 Err(_) => Err(StreamOpenFault::Memory),
             }
         }
-        Err(error) => Err(StreamOpenFault::of(notes.teller.name, path, error)),
+        Err(error) => Err(StreamOpenFault::of(notes.messenger.name, path, error)),
     }
 }

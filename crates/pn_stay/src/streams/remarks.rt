@@ -1,12 +1,16 @@
-//! What a writer says of its stream: whose stream it is, in its first line, and how far its broker is, between messages.
+//! What a publisher says of its stream: in its first line, and between messages, which go on byte for byte.
 
-ghost use Rattle.std.specs.Prelude.{◌≡◌, IfOk, string_bytes};
+ghost use Rattle.std.specs.Prelude.{◌≡◌, IfOk, string_bytes, ◌<◌, ◌≤◌, ◌⊎◌, true, false, length, None, IfSome};
 ghost use Rattle.serde_json.specs.View.{view};
 ghost use Rattle.pn_json.specs.Prelude.{IsUnless, Shows, ShowsUnless, line_of};
 ghost use Rattle.pn_stay.specs.Remarks.{agrees, is_identity as names_a_stream, newest_at, newest_in, other_stream_data, remark_at, stream_at, stream_in};
+ghost use Rattle.pn_stay.specs.Remarks.{may_go_on, IsKind, IsStep};
+ghost use Rattle.pn_record.specs.Prelude.{max_line_bytes};
 
+use memchr::memchr;
 use pn_join::{LAST_POSITION, NoMemory};
 use pn_json::{begin_line, check_names, finish_line, text_of, whole_number_of, write_text_member};
+use pn_line::MAX_LINE_BYTES;
 use pn_record::{ImageFault, read_value};
 use serde_json::Value;
 use std::alloc::Global;
@@ -110,7 +114,7 @@ fn newest_of(value: &Value) -> Result<u64, RemarkFault>
     Ok(newest)
 }
 
-/// The line that tells a writer that the region has another stream than its own.
+/// The line that tells a publisher that the region has another stream than its own.
 pub fn format_other_stream(alloc: Global, has: &str, got: &str) -> Result<Vec<u8>, NoMemory>
     ensures { IfOk result (λ line. line.items ≡ line_of (other_stream_data has.now got.now)) }
 {
@@ -121,4 +125,114 @@ pub fn format_other_stream(alloc: Global, has: &str, got: &str) -> Result<Vec<u8
     write_text_member(&mut writer, "has", has)?;
     writer.end_object()?;
     finish_line(writer)
+}
+
+/// What comes next of a publisher's bytes.
+#[derive(Clone, Copy, Debug, PartialEq, Eq)]
+pub enum Step {
+    /// `count` bytes go on as they are. Whether the next ones belong to a line whose beginning went on.
+    Give { count: usize, is_inside: bool },
+    /// A line of this length says how far the broker is, and its newline follows.
+    Hear { line: usize, newest: u64 },
+}
+
+/// What a line is, or the beginning of one.
+#[derive(Clone, Copy, Debug, PartialEq, Eq)]
+pub enum LineKind {
+    /// It goes on.
+    Message,
+    /// It says how far the broker is.
+    Newest(u64),
+    /// It may go on to say so.
+    Unknown,
+}
+
+/// What comes next of these bytes, where there is room for `room`. None where there are none, no room, or a part of a line that
+/// may say how far the broker is.
+pub fn next_step(
+    alloc: Global,
+    bytes: &[u8],
+    is_inside: bool,
+    room: usize,
+) -> Result<Option<Step>, NoMemory>
+    ensures step { IfOk result (λ next. IfSome next (IsStep is_inside bytes.now room)) }
+    ensures waits { IfOk result (λ next. next ≡ None → (room ≡ 0) ⊎ (length bytes.now ≤ max_line_bytes)) }
+{
+    if bytes.is_empty() || room == 0 {
+        return Ok(None);
+    }
+    let (count, is_ended) = first_line(bytes);
+    match kind_of_line(alloc, &bytes[..count], is_inside, is_ended)? {
+        LineKind::Message => {
+            let (count, is_inside) = give_line(bytes, count, is_ended, room);
+            Ok(Some(Step::Give { count, is_inside }))
+        }
+        LineKind::Newest(newest) => Ok(Some(Step::Hear {
+            line: count,
+            newest,
+        })),
+        LineKind::Unknown => Ok(None),
+    }
+}
+
+// How many bytes the first line has, and whether its newline is there.
+fn first_line(bytes: &[u8]) -> (usize, bool)
+    ensures within { result.0 ≤ length bytes.now }
+    ensures ended { result.1 ≡ true → result.0 < length bytes.now }
+    ensures whole { result.1 ≡ false → result.0 ≡ length bytes.now }
+{
+    match memchr(b'\n', bytes) {
+        Some(end) => (end, true),
+        None => (bytes.len(), false),
+    }
+}
+
+// What a line is, of which the beginning went on or not, and whose newline is there or not.
+fn kind_of_line(
+    alloc: Global,
+    line: &[u8],
+    is_inside: bool,
+    is_ended: bool,
+) -> Result<LineKind, NoMemory>
+    ensures { IfOk result (IsKind is_inside line.now is_ended) }
+{
+    if is_inside || !may_go_on_as(NEWEST, line) {
+        return Ok(LineKind::Message);
+    }
+    if !is_ended {
+        return Ok(LineKind::Unknown);
+    }
+    match read_newest(alloc, line) {
+        Ok(newest) => Ok(LineKind::Newest(newest)),
+        Err(RemarkFault::Other) => Ok(LineKind::Message),
+        Err(RemarkFault::Memory) => Err(NoMemory),
+    }
+}
+
+// How much of the first line goes on: as much as there is room for, with its newline if that is there. Whether the next bytes
+// belong to the same line.
+fn give_line(bytes: &[u8], count: usize, is_ended: bool, room: usize) -> (usize, bool)
+    requires some { 1 ≤ length bytes.now }
+    requires room { 1 ≤ room }
+    requires within { count ≤ length bytes.now }
+    requires ended { is_ended ≡ true → count < length bytes.now }
+    requires whole { is_ended ≡ false → count ≡ length bytes.now }
+    ensures some { 1 ≤ result.0 }
+    ensures room { result.0 ≤ room }
+    ensures within { result.0 ≤ length bytes.now }
+{
+    if count >= room {
+        return (room, true);
+    }
+    if is_ended {
+        return (count + 1, false);
+    }
+    (count, true)
+}
+
+/// Whether bytes may be the beginning of a line that begins with the first ones.
+pub(crate) fn may_go_on_as(first: &[u8], bytes: &[u8]) -> bool
+    ensures { result ≡ may_go_on first.now bytes.now }
+{
+    bytes.len() <= MAX_LINE_BYTES && begins_as(first, bytes)
 }

@@ -1,23 +1,21 @@
-//! Streams from a socket: one writer after another.
+//! Streams from a socket: one publisher after another.
 
 ghost use Rattle.std.specs.Prelude.{◌≡◌, ◌≤◌, true, IfOk, IfSome};
-ghost use Rattle.pn_stay.specs.Positions.{GoesOn};
+ghost use Rattle.pn_stay.specs.Remarks.{GoesOn};
 
 use crate::seldom::Seldom;
-use crate::shared::share;
-use crate::streams::broker::BrokerListener;
-use crate::streams::identity::{Admitted, StreamIdentity};
 use crate::streams::input::{
     SOCKET_READ_SIZE, SocketInput, StreamInput, StreamSource, open_source,
 };
 use crate::streams::listener::StreamListener;
 use crate::streams::message_input::MessageInput;
 use crate::streams::notes::{OpenStream, StreamNotes};
+use crate::streams::origin::{Admitted, BrokerListener, StreamIdentity};
+use crate::streams::publisher::PublisherSocket;
 use crate::streams::remarks::format_other_stream;
 use crate::streams::turns::Turns;
-use crate::streams::writer::WriterSocket;
 use pn_line::Source;
-use pn_serve::{NextWriter, WriterEnd};
+use pn_serve::{NextPublisher, PublisherEnd, share};
 use std::fs::{File, Files};
 use std::net::Net;
 use std::os::unix::net::UnixStream;
@@ -28,29 +26,29 @@ use std::{io, thread};
 /// For how many milliseconds nobody is accepted after the system refused a socket, as where no descriptor is left.
 const RETRY: u64 = 100;
 
-// A writer that was accepted, and the position after which it begins.
+// A publisher that was accepted, and the position after which it begins.
 #[derive(Drop)]
 struct Accepted<R: Drop> {
     input: SocketInput<R>,
     after: u64,
 }
 
-/// The writers of a socket.
+/// The publishers of a socket.
 #[derive(Drop)]
-pub(crate) struct SocketWriters {
+pub(crate) struct SocketPublishers {
     listener: Arc<StreamListener>,
     path: String,
     pub(crate) turns: Turns,
     identity: StreamIdentity,
-    // When the system refused a socket, and when a writer of another stream came.
+    // When the system refused a socket, and when a publisher of another stream came.
     refusals: Seldom,
     others: Seldom,
 }
 
-impl SocketWriters {
-    /// The writers that come to the socket at a path.
-    pub(crate) fn new(listener: Arc<StreamListener>, path: String) -> SocketWriters {
-        SocketWriters {
+impl SocketPublishers {
+    /// The publishers that come to the socket at a path.
+    pub(crate) fn new(listener: Arc<StreamListener>, path: String) -> SocketPublishers {
+        SocketPublishers {
             listener,
             path,
             turns: Turns::new(),
@@ -60,13 +58,13 @@ impl SocketWriters {
         }
     }
 
-    /// Waits for the next writer that writes anything. It is sent the position after which it begins: the greater of `last`
+    /// Waits for the next publisher that writes anything. It is sent the position after which it begins: the greater of `last`
     /// and the region's mark.
-    pub(crate) fn next_writer<R>(
+    pub(crate) fn next_publisher<R>(
         &mut self,
         notes: &StreamNotes<R>,
         last: u64,
-    ) -> (NextWriter<StreamSource<R>>, OpenStream)
+    ) -> (NextPublisher<StreamSource<R>>, OpenStream)
     where
         R: Files<File = File> + Net + Wait + Clock + Copy + Drop,
         ensures { last ≤ result.0.after }
@@ -88,12 +86,12 @@ impl SocketWriters {
         unreachable!()
     }
 
-    // Waits for what a writer says first, and for its first bytes. None where it goes, or is refused.
+    // Waits for what a publisher says first, and for its first bytes. None where it goes, or is refused.
     fn greet<R>(
         &mut self,
         notes: &StreamNotes<R>,
         accepted: Accepted<R>,
-    ) -> Option<NextWriter<StreamSource<R>>>
+    ) -> Option<NextPublisher<StreamSource<R>>>
     where
         R: Files<File = File> + Net + Wait + Clock + Copy + Drop,
         ensures { IfSome result (λ next. next.after ≡ accepted.after) }
@@ -105,7 +103,7 @@ impl SocketWriters {
             Ok(admitted) => {
                 self.note_identity(notes);
                 let source = self.open(notes, input, admitted)?;
-                Some(NextWriter { source, after })
+                Some(NextPublisher { source, after })
             }
             Err(got) => {
                 self.refuse(notes, &mut input, got.as_str());
@@ -114,7 +112,7 @@ impl SocketWriters {
         }
     }
 
-    // What an admitted writer is read from, once it writes anything.
+    // What an admitted publisher is read from, once it writes anything.
     fn open<R>(
         &mut self,
         notes: &StreamNotes<R>,
@@ -125,7 +123,12 @@ impl SocketWriters {
         R: Files<File = File> + Net + Wait + Clock + Copy + Drop,
     {
         let input = StreamInput::Socket(input);
-        match open_source(notes.teller.alloc, input, SOCKET_READ_SIZE, &notes.counters) {
+        match open_source(
+            notes.messenger.alloc,
+            input,
+            SOCKET_READ_SIZE,
+            &notes.counters,
+        ) {
             Ok(source) => {
                 let mut source = source;
                 if !source.has_more().unwrap_or(false) {
@@ -148,7 +151,7 @@ impl SocketWriters {
         }
     }
 
-    // Tells a writer of another stream which one the region has. Standard error has it once a minute at most.
+    // Sends a publisher of another stream which one the region has. Standard error has it once a minute at most.
     fn refuse<R>(&mut self, notes: &StreamNotes<R>, input: &mut SocketInput<R>, got: &str)
     where
         R: Files<File = File> + Net + Wait + Clock + Copy + Drop,
@@ -157,15 +160,15 @@ impl SocketWriters {
             Some(has) => has.as_str(),
             None => "",
         };
-        if let Ok(line) = format_other_stream(notes.teller.alloc, has, got) {
-            input.input_mut().tell_last(&line);
+        if let Ok(line) = format_other_stream(notes.messenger.alloc, has, got) {
+            input.input_mut().send_last(&line);
             if self.others.is_due(&notes.rt) {
-                notes.tell_refused(&line);
+                notes.leave_refused(&line);
             }
         }
     }
 
-    // Waits for a writer, but not for long.
+    // Waits for a publisher, but not for long.
     fn accept<R>(&self, notes: &StreamNotes<R>, last: u64) -> io::Result<Option<Accepted<R>>>
     where
         R: Files<File = File> + Net + Wait + Clock + Copy + Drop,
@@ -189,12 +192,13 @@ impl SocketWriters {
         ensures goes_on { IfOk result (λ accepted. GoesOn last accepted.after) }
         ensures later { IfOk result (λ accepted. last ≤ accepted.after) }
     {
+        let status = share(&notes.status)?;
         let positions = notes.positions.try_clone()?;
         let listener = Arc::try_clone(&self.listener)?;
-        let alloc = notes.teller.alloc;
-        let begun = WriterSocket::begin(notes.rt, alloc, stream, positions, last, listener)?;
+        let alloc = notes.messenger.alloc;
+        let begun = PublisherSocket::begin(notes.rt, alloc, stream, positions, last, listener)?;
         let (socket, after) = begun;
-        let broker = BrokerListener::new(notes.rt, share(&notes.status)?);
+        let broker = BrokerListener::new(notes.rt, status);
         let input = MessageInput::new(alloc, socket, broker)?;
         Ok(Accepted { input, after })
     }
@@ -204,45 +208,45 @@ impl SocketWriters {
         R: Wait + Clock + Drop,
     {
         if self.refusals.is_due(&notes.rt) {
-            notes.tell_error("accept", self.path.as_str(), error);
+            notes.leave_error("accept", self.path.as_str(), error);
         }
         thread::sleep(&notes.rt, Duration::from_millis(RETRY));
     }
 }
 
-/// Sends a writer how its input ended, and closes its socket. What was handed to rounds is waited for, but not for long.
-pub(crate) fn end_socket<R>(source: StreamSource<R>, end: &WriterEnd)
+/// Sends a publisher how its input ended, and closes its socket. What was handed to rounds is waited for, but not for long.
+pub(crate) fn end_socket<R>(source: StreamSource<R>, end: &PublisherEnd)
 where
     R: Files<File = File> + Net + Wait + Clock + Drop,
 {
     if let Some(socket) = socket_of(source) {
         let mut socket = socket;
         socket.await_taken();
-        socket.tell_taken();
-        if let WriterEnd::Fault {
+        socket.send_taken();
+        if let PublisherEnd::Fault {
             fault,
             position,
             ..
         } = end
         {
-            socket.tell_fault(fault, *position);
+            socket.send_fault(fault, *position);
         }
     }
 }
 
-/// Sends a writer what was taken of its input, which is read no more, and closes its socket.
+/// Sends a publisher what was taken of its input, which is read no more, and closes its socket.
 pub(crate) fn stop_socket<R>(source: StreamSource<R>)
 where
     R: Files<File = File> + Net + Wait + Clock + Drop,
 {
     if let Some(socket) = socket_of(source) {
         let mut socket = socket;
-        socket.tell_taken();
+        socket.send_taken();
     }
 }
 
-// The socket of a writer that is read from one.
-fn socket_of<R>(source: StreamSource<R>) -> Option<WriterSocket<R>>
+// The socket of a publisher that is read from one.
+fn socket_of<R>(source: StreamSource<R>) -> Option<PublisherSocket<R>>
 where
     R: Files<File = File> + Net + Wait + Clock + Drop,
 {

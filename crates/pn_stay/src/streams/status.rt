@@ -21,9 +21,9 @@ struct StatusNow {
     // When the last message came.
     came: Option<Instant>,
     fault: Option<StreamFaultStats>,
-    // Whose stream it is, if a writer said so.
+    // Whose stream it is, if a publisher said so.
     stream: Option<String>,
-    // The broker's newest position, as a writer said it last, and when that was.
+    // The broker's newest position, as a publisher said it last, and when that was.
     newest: Option<u64>,
     heard: Option<Instant>,
 }
@@ -41,7 +41,7 @@ pub(crate) struct StatusThen {
 }
 
 impl StreamStatus {
-    /// The status of a stream whose writers come to a path, before the first one.
+    /// The status of a stream whose publishers come to a path, before the first one.
     pub(crate) fn new(path: String) -> StreamStatus {
         StreamStatus {
             path,
@@ -49,7 +49,7 @@ impl StreamStatus {
         }
     }
 
-    /// Notes that a writer has come, or has gone.
+    /// Notes that a publisher has come, or has gone.
     pub(crate) fn set_state<R: Wait>(&self, rt: &R, state: StreamState) {
         self.now.lock(rt).state = state;
     }
@@ -60,7 +60,7 @@ impl StreamStatus {
         self.now.lock(rt).came = now;
     }
 
-    /// Notes a writer's fault.
+    /// Notes a publisher's fault.
     pub(crate) fn note_fault<R: Wait>(&self, rt: &R, fault: StreamFaultStats) {
         self.now.lock(rt).fail(fault);
     }
@@ -70,7 +70,7 @@ impl StreamStatus {
         self.now.lock(rt).stream = Some(stream);
     }
 
-    /// Notes the broker's newest position, which a writer says now.
+    /// Notes the broker's newest position, which a publisher says now.
     pub(crate) fn note_newest<R: Wait + Clock>(&self, rt: &R, newest: u64) {
         let heard = Instant::now(rt).ok();
         let mut now = self.now.lock(rt);
@@ -78,7 +78,7 @@ impl StreamStatus {
         now.heard = heard;
     }
 
-    /// Whether a writer is read.
+    /// Whether a publisher is read.
     pub(crate) fn is_open<R: Wait>(&self, rt: &R) -> bool {
         self.now.lock(rt).state == StreamState::Open
     }
@@ -102,7 +102,7 @@ impl StreamStatus {
 }
 
 impl StatusNow {
-    // No writer has come.
+    // No publisher has come.
     fn new() -> StatusNow
         ensures state { result.state ≡ StreamState.Waiting }
         ensures came { result.came ≡ None }
@@ -121,7 +121,7 @@ impl StatusNow {
         }
     }
 
-    // The writer is no longer read.
+    // The publisher is no longer read.
     fn fail(&mut self, fault: StreamFaultStats)
         ensures state { self.new.state ≡ StreamState.Failed }
         ensures fault { self.new.fault ≡ Some fault }

@@ -3,15 +3,15 @@
 ghost use Rattle.std.specs.Prelude.{◌≡◌, ◌≢◌, ◌≤◌, ◌++◌, length, All, Some, IfSome};
 ghost use Rattle.pn_record.specs.Prelude.{max_line_bytes};
 ghost use Rattle.pn_stream.specs.Calls.{GivesUp, IsCall, Takes};
-ghost use Rattle.pn_stream.specs.Lines.{Gathered, IsWhole, first_fault as fault_before};
+ghost use Rattle.pn_stream.specs.Batches.{Gathered, IsWhole, first_fault as fault_before};
 ghost use Rattle.pn_stream.specs.declared.reader.TheConstants.{MAX_MESSAGES};
 
 use super::StreamReader;
 use crate::chunks::{chunk_count, read_in_memory};
-use crate::delivery::Delivery;
 use crate::fault::StreamFault;
 use crate::lines::{WholeLine, take_lines};
 use crate::memory::ReaderMemory;
+use crate::message::Delivery;
 use crate::next::BatchSize;
 use pn_line::Source;
 use pn_record::Image;
@@ -81,9 +81,7 @@ impl<S: Source + Drop> StreamReader<S> {
         ensures read { result.1 ≡ Some StreamFault.Read → S.may_fail }
         ensures gives_up { result.1 ≡ Some StreamFault.Memory → M.may_give_up }
         ensures not_failed { result.1 ≢ Some StreamFault.Failed }
-        ensures name { self.new.name ≡ self.old.name }
-        ensures position { self.new.position ≡ self.old.position }
-        ensures fault { self.new.fault ≡ self.old.fault }
+        ensures kept { self.new ≡ record self.old { part = self.new.part; source = self.new.source } }
         ensures part { length self.new.part ≤ max_line_bytes }
     {
         let mut lines = Vec::new(memory.alloc());

@@ -3,9 +3,7 @@
 ghost use Rattle.std.specs.Prelude.{◌≡◌, IsTrue, IfOk};
 ghost use Rattle.pn_record.specs.Prelude.{spell, table_of};
 ghost use Rattle.pn_join.specs.Prelude.{Reaches, are_positions};
-ghost use Rattle.pn_tablet.specs.Counting.{counts_of};
-ghost use Rattle.pn_tablet.specs.Needs.{needed};
-ghost use Rattle.pn_tablet.specs.Tablets.{lie_in};
+ghost use Rattle.pn_tablet.specs.Tablets.{counts_of, needed, lie_in};
 ghost use Rattle.pn_tablet.specs.declared.state.Status.TheVariants.{Serving};
 
 use super::{Status, TabletState};

@@ -11,20 +11,19 @@ use Rattle.pn_serve.proofs.Crossing.{name_send}
 use Rattle.pn_stay.specs.contracts.counters.CountingSource as counting
 use Rattle.pn_stay.specs.contracts.streams.input.StreamInput as stream_input
 use Rattle.pn_stay.specs.contracts.streams.origin.StreamOrigin as origin
-use Rattle.pn_stay.proofs.Crossing.{counters_send, counters_sync, fifo_poll_send, input_send, input_sync, messages_send, messages_sync, positions_send, seldom_send, socket_writers_send, status_send, status_sync, stream_listener_send, stream_listener_sync, teller_send, turns_send}
+use Rattle.pn_stay.proofs.Crossing.{fifo_poll_send, input_send, input_sync, positions_send, seldom_send, socket_publishers_send}
+use Rattle.pn_stay.proofs.Crossing.{status_send, status_sync, stream_listener_send, stream_listener_sync, messenger_send, turns_send}
 use Rattle.pnuts.proofs.main.Goals as goal
 
 source_send : IsSend (counting.the_row (buf_reader.the_row (stream_input.the_row host.the_row) global.the_row global_allocator.TheImpl.ghosts))
-source_send = search (sendable, crosses, input_send, input_sync, positions_send, status_send, status_sync, stream_listener_send, stream_listener_sync) depth 40 fits 20000
+source_send =
+    search (sendable, crosses, input_send, input_sync, positions_send, status_send, status_sync, stream_listener_send, stream_listener_sync) depth 40 fits 20000
 
 origin_send : IsSend (origin.the_row host.the_row)
 origin_send = declared_send (declared (origin.struct host.the_row) _) (
-  search (positions_send, teller_send, input_send, input_sync, status_send, status_sync, sendable, crosses) depth 40 fits 20000,
-  (search (source_send, fifo_poll_send, turns_send, seldom_send, socket_writers_send, sendable, crosses) depth 40 fits 20000, tt),
+  search (positions_send, messenger_send, input_send, input_sync, status_send, status_sync, sendable, crosses) depth 40 fits 20000,
+  (search (source_send, fifo_poll_send, turns_send, seldom_send, socket_publishers_send, sendable, crosses) depth 40 fits 20000, tt),
 )
-
-pub spawn-requires-send-F : goal.spawn-requires-send-F
-spawn-requires-send-F g c κs = search (sendable, crosses, counters_send, counters_sync, messages_send, messages_sync) depth 40 fits 20000
 
 pub read_streams-read-requires-send-S : goal.read_streams-read-requires-send-S
 read_streams-read-requires-send-S g c κs =

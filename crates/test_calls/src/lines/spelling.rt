@@ -1,10 +1,10 @@
 //! A handler whose replies are letters.
 
 use pn_line::MAX_LINE_BYTES;
-use pn_lines::{Answer, Answered, EndedBy, LineHandler, LineReply, PieceText, RefusesLong};
+use pn_lines::{Answered, EndedBy, LineHandler, LineOutcome, LineReply, PieceText, RefusesLong};
 use std::alloc::Global;
 
-/// The same letter, so many times.
+/// A letter, repeated.
 #[derive(Drop)]
 pub(crate) struct Letters {
     letter: u8,
@@ -38,7 +38,7 @@ pub(crate) struct Spelling {
 impl LineHandler for Spelling {
     ghost use Rattle.std.specs.Prelude.{⊤, [], false};
 
-    type Going = usize;
+    type Pending = usize;
 
     type Text = Letters;
 
@@ -46,7 +46,7 @@ impl LineHandler for Spelling {
 
     ghost handling = { record { moves = λ _ _. ⊤; answers = λ _ _ _ _ _. ⊤; goes = λ _ _ _ _ _. ⊤; closed = λ _. ⊤ } };
 
-    ghost left = { λ going. going };
+    ghost left = { λ pending. pending };
 
     ghost keeps = { λ _ _. ⊤ };
 
@@ -57,32 +57,32 @@ impl LineHandler for Spelling {
     fn answer(&mut self, _alloc: Global, line: &[u8], ended: EndedBy) -> Answered<usize, Letters> {
         if line.len() > MAX_LINE_BYTES {
             return Answered {
-                answer: Answer::Done(self.refuse_long(ended)),
+                answer: LineOutcome::Done(self.refuse_long(ended)),
                 units: 1,
             };
         }
         self.is_over = line.first() == Some(&b'!');
         if line.first() == Some(&b'+') {
             return Answered {
-                answer: Answer::Going(line.len()),
+                answer: LineOutcome::Pending(line.len()),
                 units: 1,
             };
         }
         Answered {
-            answer: Answer::Done(spell(line, ended)),
+            answer: LineOutcome::Done(spell(line, ended)),
             units: 1,
         }
     }
 
-    fn go_on(&mut self, _alloc: Global, going: usize, units: u32) -> Answered<usize, Letters> {
-        if going > 0 && units > 0 {
+    fn go_on(&mut self, _alloc: Global, pending: usize, units: u32) -> Answered<usize, Letters> {
+        if pending > 0 && units > 0 {
             return Answered {
-                answer: Answer::Going(going - 1),
+                answer: LineOutcome::Pending(pending - 1),
                 units: 1,
             };
         }
         Answered {
-            answer: Answer::Done(spell(b"+", EndedBy::Newline)),
+            answer: LineOutcome::Done(spell(b"+", EndedBy::Newline)),
             units: 1,
         }
     }
@@ -90,7 +90,7 @@ impl LineHandler for Spelling {
     ghost steady = { (
       record { stays = λ _. tt; goes_on = λ _ _ _ _ _. tt },
       record { stays = λ _. tt; goes_on = λ _ _ _ _ _. tt },
-      λ was between now ended line going begun moved.
+      λ was between now ended line pending begun moved.
           (record { text = []; refused = false }, record { between = was; moved = tt; answered = tt }),
     ) };
 }

@@ -2,8 +2,7 @@
 
 ghost use Rattle.std.specs.Prelude.{◌≤◌, length, IsTrue};
 
-use crate::regions::rounds::{bring, filled, region};
-use crate::regions::work::KEYS;
+use crate::regions::rounds::{KEYS, bring, filled, region};
 use pn_apply::Open;
 use pn_join::{Marks, Name};
 use pn_region::Region;

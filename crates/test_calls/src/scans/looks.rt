@@ -1,6 +1,6 @@
 //! What looks into a view find, in words.
 
-use crate::scans::view::TakesTurns;
+use crate::scans::TakesTurns;
 use pn_join::NoMemory;
 use pn_record::{Cell, Key, Version};
 use pn_scan::{

@@ -3,7 +3,7 @@
 ghost use Rattle.std.specs.Prelude.{◌≤◌};
 ghost use Rattle.pn_stream.specs.declared.reader.TheConstants.{MAX_MESSAGES};
 
-use crate::streams::case::Case;
+use crate::streams::Case;
 use pn_line::{InMemory, Source};
 use pn_stream::{Delivery, ReaderMemory, StreamFault, StreamReader};
 use std::alloc::Global;

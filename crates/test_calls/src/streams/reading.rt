@@ -3,8 +3,7 @@
 ghost use Rattle.std.specs.Prelude.{◌≤◌};
 ghost use Rattle.pn_stream.specs.declared.reader.TheConstants.{MAX_MESSAGES};
 
-use crate::streams::case::Case;
-use crate::streams::pipe::{Pipe, PipeBuffer};
+use crate::streams::{Case, Pipe, PipeBuffer};
 use pn_line::Source;
 use pn_record::Image;
 use pn_stream::{Delivery, NoWait, ResumeFault, StreamFault, StreamReader};
@@ -57,7 +56,7 @@ fn push_given(text: &mut String, given: &Result<Delivery, StreamFault>) -> Resul
     }
 }
 
-/// Adds what the call for a writer's first message gives.
+/// Adds what the call for a publisher's first message gives.
 pub(crate) fn push_first<S: Source + Drop>(
     text: &mut String,
     reader: &mut StreamReader<S>,
@@ -65,7 +64,7 @@ pub(crate) fn push_first<S: Source + Drop>(
     push_begun(text, &resume(*text.allocator(), reader))
 }
 
-// What the call for a writer's first message gives.
+// What the call for a publisher's first message gives.
 fn resume<S: Source + Drop>(
     alloc: Global,
     reader: &mut StreamReader<S>,
@@ -84,7 +83,7 @@ fn push_begun(
     }
 }
 
-// Adds what the call for a writer's first message gives, where the case begins with one.
+// Adds what the call for a publisher's first message gives, where the case begins with one.
 fn push_resumed<S: Source + Drop>(
     text: &mut String,
     case: &Case,

@@ -10,7 +10,8 @@ use pn_protocol::{
     StreamStats, TabletStats, TimeBucket, TimeCounts, TimeStats, UnreadStats,
 };
 use pn_serve::{
-    ControlMailboxes, ControlSession, StatsSource, Stream, close_region, open_region, take_commands,
+    ControlMailboxes, ControlSession, OpenedRegion, StatsSource, Stream, close_region, open_region,
+    take_commands,
 };
 use std::alloc::{AllocError, Global};
 use std::sync::{Arc, Wait};
@@ -119,7 +120,7 @@ fn two_streams(alloc: Global) -> Result<Vec<StreamStats>, NoMemory> {
     Ok(streams)
 }
 
-// A stream whose last writer had a fault.
+// A stream whose last publisher had a fault.
 fn failed_stream(alloc: Global) -> Result<StreamStats, NoMemory> {
     let name = Name::read(b"east").ok().ok_or(NoMemory)?;
     let path = String::from_str(alloc, "./east")?;
@@ -140,7 +141,7 @@ fn failed_stream(alloc: Global) -> Result<StreamStats, NoMemory> {
     })
 }
 
-// A stream to which no writer has come.
+// A stream to which no publisher has come.
 fn new_stream(alloc: Global) -> Result<StreamStats, NoMemory> {
     let name = Name::read(b"west").ok().ok_or(NoMemory)?;
     let path = String::from_str(alloc, "./west")?;
@@ -179,8 +180,10 @@ where
 {
     let streams = streams_of(rt, alloc, count)?;
     let layout = layout(alloc, "h")?;
-    let (live, readers) = open_region(rt, alloc, layout, 1).ok()?;
-    let (mut live, mut readers) = (live, readers);
+    let OpenedRegion {
+        mut live,
+        mut readers,
+    } = open_region(rt, alloc, layout, 1).ok()?;
     let is_read = read_all(rt, alloc, &mut live, streams, None);
     let told = answer_by(rt, alloc, &mut live, readers.pop(), lines);
     let is_closed = close_region(rt, live, Vec::new(alloc)).is_ok();

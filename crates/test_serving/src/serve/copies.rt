@@ -3,7 +3,7 @@
 ghost use Rattle.std.specs.Prelude.{◌≤◌, IfOk};
 ghost use Rattle.pn_live.specs.Prelude.{tablets_in};
 ghost use Rattle.pn_live.specs.declared.region.opening.TheConstants.{MAX_READERS};
-ghost use Rattle.pn_serve.specs.Server.Sessions.{AllRead};
+ghost use Rattle.pn_serve.specs.Server.Events.{AllRead};
 
 use pn_join::{Marks, Name, NoMemory};
 use pn_line::{EndlessSource, InMemory};

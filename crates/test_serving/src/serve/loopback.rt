@@ -4,7 +4,9 @@ use crate::reading::{first_message, readers_of, settings};
 use crate::serve::copies::open_text;
 use pn_join::NoMemory;
 use pn_live::LiveReader;
-use pn_serve::{Acceptor, AnyWriters, Counter, FaultLog, ServeFault, WriterEnd, serve, serve_from};
+use pn_serve::{
+    Acceptor, AnyPublishers, Counter, FaultLog, PublisherEnd, ServeFault, serve, serve_opened,
+};
 use std::alloc::{AllocError, Global};
 use std::io::BufReader;
 use std::net::{Net, SocketAddr, TcpListener, TcpStream};
@@ -206,7 +208,7 @@ where
 {
     let settings = settings(alloc)?;
     let streams = readers_of(alloc, messages)?;
-    Some(serve::<_, _, _, _, AnyWriters>(rt, alloc, listener, settings, 1, streams, written))
+    Some(serve::<_, _, _, _, AnyPublishers>(rt, alloc, listener, settings, 1, streams, written))
 }
 
 fn second_message() -> &'static str {
@@ -229,7 +231,9 @@ where
 {
     let streams = readers_of(alloc, first_message())?;
     let opened = open_text(rt, alloc, 1, first_copy(), 1).ok()?;
-    Some(serve_from::<_, _, _, _, AnyWriters>(rt, alloc, listener, opened, 1, streams, written))
+    Some(serve_opened::<_, _, _, _, AnyPublishers>(
+        rt, alloc, listener, opened, 1, streams, written,
+    ))
 }
 
 fn add_faults<R: Wait>(rt: &R, text: &mut String, faults: &FaultLog) -> Result<(), AllocError> {
@@ -239,10 +243,10 @@ fn add_faults<R: Wait>(rt: &R, text: &mut String, faults: &FaultLog) -> Result<(
     Ok(())
 }
 
-fn add_fault(text: &mut String, end: &WriterEnd) -> Result<(), AllocError> {
+fn add_fault(text: &mut String, end: &PublisherEnd) -> Result<(), AllocError> {
     match end {
-        WriterEnd::End => Ok(()),
-        WriterEnd::Fault {
+        PublisherEnd::End => Ok(()),
+        PublisherEnd::Fault {
             fault,
             position,
             line,

@@ -14,7 +14,7 @@ const MESSAGES: u64 = 3_000;
 
 const MAX_ROUNDS: u64 = 10;
 
-/// How many milliseconds it takes to find that a stream has no next writer.
+/// How many milliseconds it takes to find that a stream has no next publisher.
 const DELAY: u64 = 200;
 
 fn messages(alloc: Global) -> Result<String, AllocError> {

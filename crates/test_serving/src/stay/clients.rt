@@ -1,13 +1,14 @@
 //! A connection's turns, and the buffers that they use: each call where it succeeds.
 
-use crate::stay::echo::Echo;
+use crate::stay::opening::Echo;
+use crate::stay::served::UNREAD;
 use crate::stay::{TURNS, read_pieces, read_takes, show};
 use pn_join::{Name, NoMemory};
 use pn_line::{Discard, InMemory, LineBuffer, LineEnd, Sink, Source, read_line};
 use pn_lines::{LineTurns, Pause, TurnBuffers, TurnOutcome};
-use pn_serve::{Going, MAX_LINES, ReplyPieces};
+use pn_serve::{MAX_LINES, PendingLookup, ReplyPieces};
 use pn_stay::{
-    Counters, CountingSource, InputBuffer, InputCounters, ScriptedSink, ScriptedSource,
+    Counters, CountingSource, FakeSink, FakeSource, InputBuffer, InputCounters, MemoryMeter,
     StreamCounters,
 };
 use std::alloc::Global;
@@ -20,7 +21,7 @@ pub(crate) fn take_turns(alloc: Global, line: &str) -> Result<String, Fail> {
     let (takes, text) = line.split_once(' ').unwrap_or(("", ""));
     let pieces = read_pieces(alloc, text)?;
     let takes = read_takes(alloc, takes)?;
-    let mut output = ScriptedSink::new(alloc, &takes);
+    let mut output = FakeSink::new(alloc, &takes);
     let (pauses, lines) = give_turns(alloc, &pieces, &mut output)?;
     turns_text(alloc, pauses.as_str(), output.bytes(), lines)
 }
@@ -67,16 +68,16 @@ fn push_and_count<W: Sink>(
     output: &mut W,
 ) -> Result<u64, Fail> {
     let mut lines = LineTurns::new(alloc, MAX_LINES);
-    let mut input = ScriptedSource::new(pieces);
+    let mut input = FakeSource::new(pieces);
     push_pauses(pauses, &mut lines, buffers, &mut input, output)?;
     Ok(lines.counts().lines)
 }
 
 fn push_pauses<W: Sink>(
     pauses: &mut String,
-    lines: &mut LineTurns<Going, ReplyPieces>,
+    lines: &mut LineTurns<PendingLookup, ReplyPieces>,
     buffers: &mut TurnBuffers,
-    input: &mut ScriptedSource<'_>,
+    input: &mut FakeSource<'_>,
     output: &mut W,
 ) -> Result<(), Fail> {
     for _ in 0..TURNS {
@@ -111,7 +112,7 @@ fn push_both(
     pieces: &[Vec<u8>],
     buffer: &mut InputBuffer,
 ) -> Result<(), Fail> {
-    let mut input = ScriptedSource::new(pieces);
+    let mut input = FakeSource::new(pieces);
     push_read(alloc, shown, &mut input, buffer)?;
     shown.push_str(", ")?;
     push_read(alloc, shown, &mut input, buffer)
@@ -121,7 +122,7 @@ fn push_both(
 fn push_read(
     alloc: Global,
     shown: &mut String,
-    input: &mut ScriptedSource<'_>,
+    input: &mut FakeSource<'_>,
     buffer: &mut InputBuffer,
 ) -> Result<(), Fail> {
     let read = buffer.read_from(input)?;
@@ -171,10 +172,10 @@ fn new_counters(alloc: Global, input: Arc<InputCounters>) -> Option<Counters> {
             name,
             input,
             taken: None,
-            told: None,
+            sent: None,
             status: None,
             size: None,
         })
         .ok()?;
-    Counters::new(alloc, streams).ok()
+    Counters::new(alloc, streams, MemoryMeter::new(), UNREAD).ok()
 }

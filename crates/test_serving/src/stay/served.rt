@@ -3,8 +3,8 @@
 use crate::reading::{Script, first_message, readers_of, settings, stream_of};
 use crate::serve::loopback::{Served, outcome};
 use crate::stay::talks::{At, Told, flood, talk};
-use pn_serve::{AnyWriters, Counter, Stream, serve};
-use pn_stay::{Counters, Listener, OWNER_ALONE, SocketAcceptor, StayingServer};
+use pn_serve::{AnyPublishers, Counter, Stream, serve};
+use pn_stay::{Counters, Listener, MemoryMeter, OWNER_ALONE, SocketAcceptor, StayingServer};
 use std::alloc::{AllocError, Global};
 use std::fs::{File, Files};
 use std::net::{IpAddr, Ipv4Addr, Net, TcpListener, TcpStream};
@@ -20,6 +20,9 @@ const PATH: &str = "socket-of-test";
 
 /// The file that is locked while somebody listens there.
 const LOCK: &str = "socket-of-test.lock";
+
+/// How many bytes of records unread replies may keep.
+pub(crate) const UNREAD: u64 = 64_000_000;
 
 /// The permissions of a socket that a group may use, too.
 const GROUP: u32 = 0o660;
@@ -66,7 +69,7 @@ pub(crate) fn new_acceptor(
     control: Option<Listener>,
     idle: Option<u32>,
 ) -> Result<SocketAcceptor, AllocError> {
-    let counters = Counters::new(alloc, Vec::new(alloc))?;
+    let counters = Counters::new(alloc, Vec::new(alloc), MemoryMeter::new(), UNREAD)?;
     let counters = Arc::new(alloc, counters)?;
     Ok(SocketAcceptor {
         control,
@@ -138,7 +141,7 @@ where
     let settings = settings(alloc)?;
     let readers = readers_of(alloc, first_message())?;
     let mut written = Vec::new(alloc);
-    let ended = serve::<_, _, _, _, AnyWriters>(
+    let ended = serve::<_, _, _, _, AnyPublishers>(
         rt,
         alloc,
         acceptor,

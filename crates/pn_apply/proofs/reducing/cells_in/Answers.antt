@@ -3,9 +3,9 @@ use Rattle.std.proofs.Common.{List, take, sym, subst, arith}
 use Rattle.std.proofs.lemmas.List.{take_all}
 use Rattle.pn_record.specs.Cells.{Holds}
 use Rattle.pn_record.proofs.CellMaps.{held_table}
-use Rattle.pn_stream.specs.Positions.{DeliveryValue}
+use Rattle.pn_stream.specs.Brokers.{DeliveryValue}
 use Rattle.pn_apply.specs.Reducing.{all_images, images_in}
-use Rattle.pn_apply.proofs.Parts.{images_more}
+use Rattle.pn_apply.proofs.Tables.{images_more}
 use Rattle.pn_apply.proofs.reducing.cells_in.Goals as goal
 
 pub loop-share-preserved : goal.loop-share-preserved

@@ -1,7 +1,7 @@
 -- The cells so far hold the images of the shares so far in the range.
 use Rattle.std.proofs.Common.{IsTrue, take}
 use Rattle.std.specs.FinMap.{is_sorted}
-use Rattle.pn_record.specs.Order.{bytes_cmp}
+use Rattle.pn_record.specs.Sets.{bytes_cmp}
 use Rattle.pn_record.specs.Cells.{Holds}
 use Rattle.pn_apply.specs.Reducing.{all_images, images_in}
 use Rattle.pn_apply.proofs.reducing.cells_in.Given as goal

@@ -1,7 +1,7 @@
 -- The part of the share's table in the range joins the cells.
 use Rattle.std.proofs.lemmas.Result.{on_ok_weaker}
 use Rattle.pn_apply.specs.Reducing.{images_in}
-use Rattle.pn_apply.proofs.Parts.{held_part}
+use Rattle.pn_apply.proofs.Tables.{held_part}
 use Rattle.pn_apply.proofs.reducing.join_part.Goals as goal
 
 pub returns-clause-held : goal.returns-clause-held

@@ -1,9 +1,8 @@
 -- What both parts make is what the whole makes.
 use Rattle.std.proofs.Common.{length, ap, arith, rules}
 use Rattle.std.proofs.lemmas.List.{length-append}
-use Rattle.pn_apply.proofs.Prefixes.{on_err}
-use Rattle.pn_apply.proofs.Halves.{whole_fits, whole_worked, low_span, high_span}
-use Rattle.pn_apply.proofs.Turns.{all_kept, one_kept}
+use Rattle.pn_apply.proofs.Turns.{on_err, all_kept, one_kept}
+use Rattle.pn_apply.proofs.Applied.{whole_fits, whole_worked, low_span, high_span}
 use Rattle.pn_apply.proofs.working.+parts.Goals as goal
 
 pub work_span-returns-in_err-results : goal.work_span-returns-in_err-results

@@ -1,9 +1,8 @@
 -- Each item is worked under its tablet's number.
 use Rattle.std.proofs.Common.{◌≡◌, ◌+◌, ◌++◌, [], ◌∷◌, length, take, get_or, sym, subst, ap, ◌∙◌, rules}
 use Rattle.std.proofs.lemmas.List.{length_push}
-use Rattle.pn_apply.specs.Working.{EachOf}
-use Rattle.pn_apply.proofs.Prefixes.{on_err}
-use Rattle.pn_apply.proofs.Turns.{half_whole, made_whole, all_kept, one_kept, next_fits, next_turned, next_made, next_failed, next_kept}
+use Rattle.pn_apply.specs.Applying.{EachOf}
+use Rattle.pn_apply.proofs.Turns.{on_err, half_whole, made_whole, all_kept, one_kept, next_fits, next_turned, next_made, next_failed, next_kept}
 use Rattle.pn_apply.proofs.working.work_alone.Goals as goal
 
 pub work-requires : goal.work-requires

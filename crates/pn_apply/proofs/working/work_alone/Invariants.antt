@@ -1,6 +1,6 @@
 -- The first items are worked, and the later ones are as they were.
 use Rattle.std.proofs.Common.{◌≡◌, take, length, vec_capacity}
-use Rattle.pn_apply.specs.Working.{EachOf}
+use Rattle.pn_apply.specs.Applying.{EachOf}
 use Rattle.pn_apply.proofs.Turns.{Halfway}
 use Rattle.pn_apply.proofs.working.work_alone.Given as goal
 

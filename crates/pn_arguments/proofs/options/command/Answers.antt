@@ -24,5 +24,8 @@ returns c =
     ∙ (ap (λ (f : Command-F Command). versioned (app_of_fields f)) c.about.ensures
     ∙ ap versioned c.new.ensures.app))) in
     let one = c.in_ok-subcommand.ensures.shape c.check.ensures.local ∙ ap₂ with_subcommand own (ap (λ (app : App). app.top) c.check.ensures.app) in
-    let two = c.in_ok-subcommand-2.ensures.shape c.in_ok-replay.ensures.local ∙ ap₂ with_subcommand one (ap (λ (app : App). app.top) c.in_ok-replay.ensures.app) in
-    IfOk-weaker c.subcommand-3.result _ _ (λ r adds. adds.shape c.in_ok-serve.ensures.local ∙ ap₂ with_subcommand two (ap (λ (app : App). app.top) c.in_ok-serve.ensures.app)) c.subcommand-3.ensures
+    let two =
+    c.in_ok-subcommand-2.ensures.shape c.in_ok-replay.ensures.local ∙ ap₂ with_subcommand one (ap (λ (app : App). app.top) c.in_ok-replay.ensures.app) in
+    IfOk-weaker c.subcommand-3.result _ _
+    (λ r adds. adds.shape c.in_ok-serve.ensures.local ∙ ap₂ with_subcommand two (ap (λ (app : App). app.top) c.in_ok-serve.ensures.app))
+    c.subcommand-3.ensures

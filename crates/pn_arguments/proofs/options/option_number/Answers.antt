@@ -14,7 +14,8 @@ reads_number : (E : Type 0) (G : List ℕ → Result ℕ E → Type 0) → ((u :
     → (text : List ℕ) (r : Option ℕ) → ReadsOne G text r → r ≡ number_in text
 reads_number E G parses text (Some n) read =
     let parsed = parses text (Ok n) read in
-    let passes : is_unsigned_in 0 4294967295 text ≡ true = Accepts-accepts false (values.Unsigned 0 4294967295) text (parsed.0.0, omega arith, omega arith, omega arith) in
+    let passes : is_unsigned_in 0 4294967295 text ≡ true =
+    Accepts-accepts false (values.Unsigned 0 4294967295) text (parsed.0.0, omega arith, omega arith, omega arith) in
     rw passes (ap Some parsed.1)
 reads_number E G parses text None read = none (is_unsigned_in 0 4294967295 text) refl
   where
@@ -32,7 +33,8 @@ reads_option E G parses (Some t) r none value = reads_number E G parses t r (val
 pub returns-clause-number : goal.returns-clause-number
 returns-clause-number c =
     let read = reads_option _ (λ bs r. ParsesUnsigned 32 10 bs r × ExplainsUnsignedError 10 bs r × HasUnsignedDigitsIfOk bs r) (λ u x g. g.0)
-    _ c.get_one.result c.get_one.ensures.none c.get_one.ensures.value ∙ ap (option_and_then number_in) (one_text-rows (found_of c.args.options.now) c.args.name.now) in
+    _ c.get_one.result c.get_one.ensures.none c.get_one.ensures.value
+    ∙ ap (option_and_then number_in) (one_text-rows (found_of c.args.options.now) c.args.name.now) in
     c.clamp.ensures ∙ ap (λ (n : ℕ). max 1 (min n c.args.most)) (c.unwrap_or.ensures ∙ ap (λ (o : Option ℕ). unwrap_or o 1) read)
 
 pub returns-clause-within : goal.returns-clause-within

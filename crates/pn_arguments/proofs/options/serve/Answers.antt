@@ -4,7 +4,9 @@ use Rattle.std.proofs.lemmas.Result.{IfOk-weaker}
 use Rattle.clap.specs.Simple.{with_rule}
 use Rattle.std.specs.Prelude.{codes}
 use Rattle.clap.specs.Words.{rule_of}
-use Rattle.pn_arguments.specs.Options.{connections_option, control_option, copies_option, idle_option, listen_option, plain_option, port_option, progress_flag, sessions_option, socket_mode_option, socket_option, stay_flag, streams_words, unread_option}
+use Rattle.pn_arguments.specs.Options.{connections_option, control_option, copies_option, idle_option, listen_option, plain_option}
+use Rattle.pn_arguments.specs.Options.{port_option, progress_flag, sessions_option, socket_mode_option, socket_option, stay_flag}
+use Rattle.pn_arguments.specs.Options.{streams_words, unread_option}
 use Rattle.pn_arguments.proofs.options.serve.Goals as goal
 
 pub returns-clause-app : goal.returns-clause-app

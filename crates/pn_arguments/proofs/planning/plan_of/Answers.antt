@@ -29,7 +29,8 @@ none_met (Some b) none is = absurd (cc)
 
 pub returns : goal.returns
 returns c = λ found is.
-    let command = is_command (subcommand_rows_of c.args.matches.now) found _ _ is (c.in-Some.ensures.name ∙ name_in (out-ArgMatches c.args.matches.now).subcommand) c.in-Some.ensures.rows in
+    let command = is_command (subcommand_rows_of c.args.matches.now) found _ _ is
+    (c.in-Some.ensures.name ∙ name_in (out-ArgMatches c.args.matches.now).subcommand) c.in-Some.ensures.rows in
     subst (λ (command : Text × List Row). Tells command c.told_plan.result) command c.told_plan.ensures
 
 pub unreachable-requires : goal.unreachable-requires

@@ -3,8 +3,8 @@ use Rattle.std.proofs.Common.{◌≡◌, Bor, Bool, ℕ, List, [], ◌∷◌, �
 use Rattle.std.proofs.lemmas.List.{append_assoc, at_drop_more, map-append}
 use Rattle.pn_json.specs.Members.{texts}
 use Rattle.pn_json.specs.Answers.{◌>>=◌}
-use Rattle.pn_protocol.proofs.Walks.{onto}
-use Rattle.pn_arguments.specs.Streams.{StreamValue, each_stream, stream_in, stream_value}
+use Rattle.pn_protocol.proofs.CommandLimits.{onto}
+use Rattle.pn_arguments.specs.OptionTexts.{StreamValue, each_stream, stream_in, stream_value}
 use Rattle.pn_arguments.specs.declared.faults.OptionFault.{OptionFault}
 use Rattle.pn_arguments.proofs.streams.each_of.Goals as goal
 
@@ -30,8 +30,10 @@ loop-index-preserved c =
     record {
       so_far = c.loop-index.invariant.so_far
           ∙ at_drop_more (λ words. onto done (each_stream c.args.stays c.loop-index.index (texts words))) c.args.words.now c.loop-index.index no_word within
-          ∙ one_more c.args.stays c.loop-index.index (get_or c.args.words.now c.loop-index.index no_word).now (texts (drop (c.loop-index.index + 1) c.args.words.now)) _ done c.in_ok-stream_of.ensures
-          ∙ ap (λ streams. onto streams (each_stream c.args.stays (c.loop-index.index + 1) (texts (drop (c.loop-index.index + 1) c.args.words.now)))) (sym pushed);
+          ∙ one_more c.args.stays c.loop-index.index (get_or c.args.words.now c.loop-index.index no_word).now
+          (texts (drop (c.loop-index.index + 1) c.args.words.now)) _ done c.in_ok-stream_of.ensures
+          ∙ ap (λ streams. onto streams (each_stream c.args.stays (c.loop-index.index + 1) (texts (drop (c.loop-index.index + 1) c.args.words.now))))
+          (sym pushed);
       count = omega (arith, c.push_reserved.ensures.len, c.loop-index.invariant.count);
       capacity = c.push_reserved.ensures.capacity ∙ c.loop-index.invariant.capacity;
     }

@@ -2,8 +2,8 @@
 use Rattle.std.proofs.Common.{◌≡◌, drop, map, length}
 use Rattle.std.specs.Prelude.{vec_len, vec_capacity}
 use Rattle.pn_json.specs.Members.{texts}
-use Rattle.pn_arguments.specs.Streams.{each_stream, stream_value}
-use Rattle.pn_protocol.proofs.Walks.{onto}
+use Rattle.pn_arguments.specs.OptionTexts.{each_stream, stream_value}
+use Rattle.pn_protocol.proofs.CommandLimits.{onto}
 use Rattle.pn_arguments.proofs.streams.each_of.Given as goal
 
 abbrev pub invariant-loop-index : goal.invariant-loop-index

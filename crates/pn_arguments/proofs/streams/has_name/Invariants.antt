@@ -1,6 +1,6 @@
 -- A stream of the rest has the name exactly if one of all has.
 use Rattle.std.proofs.Common.{◌≡◌, drop, map}
-use Rattle.pn_arguments.specs.Streams.{has_name as name_among, stream_value}
+use Rattle.pn_arguments.specs.OptionTexts.{has_name as name_among, stream_value}
 use Rattle.pn_arguments.proofs.streams.has_name.Given as goal
 
 abbrev pub invariant-loop-stream : goal.invariant-loop-stream

@@ -1,7 +1,7 @@
 -- The check ends as the engine for lines does.
 use Rattle.std.proofs.Common.{Bool, sym, ap, ◌∙◌, subst}
 use Rattle.std.specs.Prelude.{Result, IfOk, IfSome, OnOk}
-use Rattle.pn_check.specs.Ends.{HasChecked, conclusion}
+use Rattle.pn_check.specs.Checking.{HasChecked, conclusion}
 use Rattle.pn_check.specs.declared.input.CheckFault.{CheckFault}
 use Rattle.pn_check.proofs.CheckedLines.{ends_checked, ends_endless, read_fails, told_out, write_fails}
 use Rattle.pn_check.proofs.input.check_lines.Goals as goal
@@ -24,5 +24,5 @@ returns-clause-endless g c = λ is. ends_endless _ _ _ _ c.answer_lines-ended.re
 
 pub returns-clause-out : goal.returns-clause-out
 returns-clause-out g c =
-    subst (λ (r : Result Bool CheckFault). OnOk r (g.W.Sink.is_handed_on c.answer_lines-ended.new.output)) (sym c.conclude.ensures)
+    subst (λ (r : Result Bool CheckFault). OnOk r (g.W.Sink.is_flushed c.answer_lines-ended.new.output)) (sym c.conclude.ensures)
     (told_out _ c.answer_lines-ended.result c.is_spent.result c.answer_lines-ended.ensures.out)

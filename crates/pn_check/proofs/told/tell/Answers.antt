@@ -1,7 +1,7 @@
 -- The text is the line of the value that was written.
 use Rattle.std.proofs.lemmas.Result.{IfOk-weaker}
 use Rattle.pn_json.specs.Members.{seen_text}
-use Rattle.pn_json.proofs.TokenLists.{has_value}
+use Rattle.pn_json.proofs.AppendedTexts.{has_value}
 use Rattle.pn_check.specs.Told.{told_data}
 use Rattle.pn_check.proofs.told.tell.Goals as goal
 

@@ -1,9 +1,9 @@
--- The members of what is told follow one another.
+-- The members of a report follow one another.
 use Rattle.std.proofs.Common.{ℕ, List, Option, codes}
 use Rattle.serde_json.specs.Data.{Data, number, object, string, unsigned, member, no_members}
 use Rattle.pn_json.specs.Members.{seen_text}
 use Rattle.pn_json.specs.Tokens.{value_tokens}
-use Rattle.pn_json.proofs.TokenLists.{appends_token, appends_both, appends_as}
+use Rattle.pn_json.proofs.AppendedTexts.{appends_token, appends_both, appends_as}
 use Rattle.pn_check.specs.Told.{text_or_null, told_data}
 use Rattle.pn_check.proofs.told.write_fault.Goals as goal
 
@@ -18,7 +18,7 @@ fault_of word line part name =
 pub returns : goal.returns
 unfolding told_data
 returns c =
-    appends_as (λ i. value_tokens (fault_of (c.fault_word.ensures i) c.args.number (c.member_word.ensures i) (seen_text c.args.name)))
+    appends_as (λ i. value_tokens (fault_of (c.word.ensures i) c.args.number (c.member_word.ensures i) (seen_text c.args.name)))
     (appends_both (appends_token c.in_ok-begin_object.ensures)
     (appends_both c.in_ok-write_text_member.ensures
     (appends_both c.in_ok-write_number_member.ensures

@@ -4,8 +4,7 @@ ghost use Rattle.std.specs.Prelude.{◌≡◌, ◌≢◌, Some, None, option_map
 ghost use Rattle.std.specs.Option.{option_copied};
 ghost use Rattle.pn_join.specs.Edits.{FitLeaves, IsAimed};
 ghost use Rattle.pn_join.specs.Leaves.{all_entries, IsLeafList};
-ghost use Rattle.pn_join.specs.TableChanges.{Changes};
-ghost use Rattle.pn_join.specs.Tables.{optional_joined};
+ghost use Rattle.pn_join.specs.Tables.{Changes, optional_joined};
 
 use super::Block;
 use crate::table::change::{TableChange, dup_optional};
@@ -16,7 +15,8 @@ impl<K: Ord + Dup, C: Join> Block<K, C> {
     /// What an entry of the other changes.
     pub(crate) fn edit(&self, key: &K, content: &C) -> Result<Option<Edit<K, C>>, NoMemory>
         requires { C.valid content.now }
-        ensures changes { IfOk result (λ edit. Changes K.cmp C.meaning C.joined C.valid (all_entries self.now) (key.now, content.now) (option_map (λ e. e.change) edit)) }
+        ensures changes { IfOk result (λ edit. Changes K.cmp C.meaning C.joined C.valid (all_entries self.now)
+            (key.now, content.now) (option_map (λ e. e.change) edit)) }
         ensures aimed { IfOk result (λ edit. IsAimed K.cmp self.now edit) }
     {
         let (leaf, before) = self.find(key);

@@ -1,10 +1,10 @@
 //! Blocks that are open: all memory is there to put contents into them, so that this cannot fail.
 
 ghost use Rattle.std.specs.Prelude.{◌≡◌, IfOk, IfSome};
-ghost use Rattle.pn_join.specs.Openings.{IsOpening};
+ghost use Rattle.pn_join.specs.TakenBlocks.{IsOpening};
 ghost use Rattle.pn_join.specs.Edits.{changes_in, AreAimed, FitLeaves};
 ghost use Rattle.pn_join.specs.Leaves.{all_entries, IsLeafList};
-ghost use Rattle.pn_join.specs.TableChanges.{AreValid, puts};
+ghost use Rattle.pn_join.specs.Tables.{AreValid, puts};
 
 use super::Block;
 use crate::table::edit::{Edit, close_leaves, leaf_indices, open_leaves, put_changes};
@@ -30,8 +30,8 @@ impl<K: Ord + Dup, C: Join> Model for OpenBlock<K, C> {
     ghost use Rattle.std.specs.List.{AllByRecursion};
     ghost use Rattle.pn_join.specs.Edits.{changes_in, AreAimed, FitLeaves, IsReadyAt};
     ghost use Rattle.pn_join.specs.Leaves.{all_entries, IsLeafList, AreEntryCounts};
-    ghost use Rattle.pn_join.specs.LeafEntries.{leaves_of};
-    ghost use Rattle.pn_join.specs.TableChanges.{AreValid, puts};
+    ghost use Rattle.pn_join.specs.Leaves.{leaves_of};
+    ghost use Rattle.pn_join.specs.Tables.{AreValid, puts};
 
     // The entries as they are, and as they are once the edits are put.
     ghost view = { λ block. (

@@ -3,7 +3,7 @@
 ghost use Rattle.std.specs.Prelude.{◌≡◌, ◌+◌, ◌-◌, ◌<◌, true, [], Err, length, get_or, option_map, slice_get, IsTrue, IfSome};
 ghost use Rattle.std.specs.FinMap.{find};
 ghost use Rattle.std.specs.Option.{option_copied};
-ghost use Rattle.pn_join.specs.Indices.{index_of};
+ghost use Rattle.pn_join.specs.Tables.{index_of};
 ghost use Rattle.pn_join.specs.Leaves.{all_entries, ends_below, leaf_for, IsLeafList};
 
 use super::Block;

@@ -2,8 +2,7 @@
 
 ghost use Rattle.std.specs.Prelude.{◌≡◌, ◌+◌, ◌<◌, ◌≤◌, ◌++◌, length, option_map, slice_range, IfOk, OnOk};
 ghost use Rattle.std.specs.Option.{option_to_list};
-ghost use Rattle.pn_join.specs.LeafEntries.{leaf_entries};
-ghost use Rattle.pn_join.specs.Leaves.{all_entries, IsLeaf, IsLeafList};
+ghost use Rattle.pn_join.specs.Leaves.{leaf_entries, all_entries, IsLeaf, IsLeafList};
 ghost use Rattle.pn_join.specs.Tables.{IsTable};
 
 use super::Block;

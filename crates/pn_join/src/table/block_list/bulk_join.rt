@@ -1,12 +1,10 @@
 //! Joins all entries of another list at once, if no leaf gets too many.
 
 ghost use Rattle.std.specs.Prelude.{◌≡◌, ◌+◌, ◌<◌, [], false, get_or, option_map, IsTrue, IfOk, OnErr};
-ghost use Rattle.pn_join.specs.BlockEdits.{changes_in_blocks, AreAimedAtBlocks};
+ghost use Rattle.pn_join.specs.Edits.{changes_in_blocks, AreAimedAtBlocks, IsAimed};
 ghost use Rattle.pn_join.specs.Blocks.{in_blocks, entries_in, AreBlocks};
-ghost use Rattle.pn_join.specs.Edits.{IsAimed};
 ghost use Rattle.pn_join.specs.Leaves.{all_entries, leaf_for};
-ghost use Rattle.pn_join.specs.TableChanges.{AreChanges, AreValid, Changes, puts};
-ghost use Rattle.pn_join.specs.Tables.{contents_at, key_by_key};
+ghost use Rattle.pn_join.specs.Tables.{AreChanges, AreValid, Changes, puts, contents_at, key_by_key};
 
 use super::counts::count_anew;
 use super::taking::edit_blocks;
@@ -42,11 +40,11 @@ impl<K: Ord + Dup, C: Join> BlockList<K, C> {
     }
 
     /// Does the same, and returns what the other's entries change.
-    pub fn join_and_tell(&mut self, other: &Self) -> Result<BulkJoin<K, C>, NoMemory>
-        ensures changes { IfOk result (λ told. AreChanges K.cmp C.meaning C.joined C.valid (entries_in self.old) (entries_in other.now) told.changes.items) }
-        ensures done { IfOk result (λ told. IsTrue told.is_done → contents_at K.cmp C.meaning (entries_in self.new)
+    pub fn join_with_changes(&mut self, other: &Self) -> Result<BulkJoin<K, C>, NoMemory>
+        ensures changes { IfOk result (λ bulk. AreChanges K.cmp C.meaning C.joined C.valid (entries_in self.old) (entries_in other.now) bulk.changes.items) }
+        ensures done { IfOk result (λ bulk. IsTrue bulk.is_done → contents_at K.cmp C.meaning (entries_in self.new)
             ≡ key_by_key C.joined (contents_at K.cmp C.meaning (entries_in self.old)) (contents_at K.cmp C.meaning (entries_in other.now))) }
-        ensures undone { IfOk result (λ told. told.is_done ≡ false → entries_in self.new ≡ entries_in self.old) }
+        ensures undone { IfOk result (λ bulk. bulk.is_done ≡ false → entries_in self.new ≡ entries_in self.old) }
         ensures err { OnErr result (entries_in self.new ≡ entries_in self.old) }
         ensures blocks { AreBlocks K.cmp C.valid self.new }
     {
@@ -60,7 +58,8 @@ impl<K: Ord + Dup, C: Join> BlockList<K, C> {
 
     /// What the entries of the other change, in each block that they belong into.
     fn edits_from(&self, other: &Self) -> Result<Vec<BlockEdits<K, C>>, NoMemory>
-        ensures changes { IfOk result (λ edits. AreChanges K.cmp C.meaning C.joined C.valid (entries_in self.now) (entries_in other.now) (changes_in_blocks edits.items)) }
+        ensures changes { IfOk result (λ edits. AreChanges K.cmp C.meaning C.joined C.valid (entries_in self.now) (entries_in other.now)
+            (changes_in_blocks edits.items)) }
         ensures aimed { IfOk result (λ edits. AreAimedAtBlocks K.cmp self.now edits.items) }
     {
         let alloc = self.alloc();
@@ -77,7 +76,8 @@ impl<K: Ord + Dup, C: Join> BlockList<K, C> {
     fn edit(&self, index: usize, key: &K, content: &C) -> Result<Option<Edit<K, C>>, NoMemory>
         requires block { index ≡ leaf_for K.cmp key.now (in_blocks self.now) }
         requires valid { C.valid content.now }
-        ensures changes { IfOk result (λ edit. Changes K.cmp C.meaning C.joined C.valid (entries_in self.now) (key.now, content.now) (option_map (λ e. e.change) edit)) }
+        ensures changes { IfOk result (λ edit. Changes K.cmp C.meaning C.joined C.valid (entries_in self.now)
+            (key.now, content.now) (option_map (λ e. e.change) edit)) }
         ensures aimed { IfOk result (λ edit. IsAimed K.cmp (get_or self.now index []) edit) }
     {
         self.recall_blocks();

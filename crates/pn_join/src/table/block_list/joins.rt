@@ -1,10 +1,8 @@
 //! Joins one entry into one block.
 
 ghost use Rattle.std.specs.Prelude.{◌≡◌, ◌<◌, ◌∷◌, [], length, get_or, vec_len, vec_capacity, IfOk, OnOk, OnErr};
-ghost use Rattle.pn_join.specs.BlockJoins.{IsHalvedAt, JoinsAt};
-ghost use Rattle.pn_join.specs.Blocks.{entries_in, in_blocks, AreBlocks};
-ghost use Rattle.pn_join.specs.Leaves.{all_entries, leaf_for};
-ghost use Rattle.pn_join.specs.PutInLeaves.{IsPutOf, ChangesOneLeaf};
+ghost use Rattle.pn_join.specs.Blocks.{IsHalvedAt, JoinsAt, entries_in, in_blocks, AreBlocks};
+ghost use Rattle.pn_join.specs.Leaves.{all_entries, leaf_for, IsPutOf, ChangesOneLeaf};
 
 use super::counts::sizes_of;
 use super::{BlockList, MAX_BLOCK_LEAVES};

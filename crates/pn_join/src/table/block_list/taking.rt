@@ -1,10 +1,9 @@
 //! Takes blocks out of a list to be edited, and puts them back: all with their edits, or all as they were.
 
 ghost use Rattle.std.specs.Prelude.{◌≡◌, ◌+◌, ◌<◌, ◌≤◌, [], false, length, get_or, vec_len, vec_capacity, IsTrue, IfOk, OnErr};
-ghost use Rattle.pn_join.specs.BlockEdits.{changes_in_blocks, AreAimedAtBlocks};
+ghost use Rattle.pn_join.specs.Edits.{changes_in_blocks, AreAimedAtBlocks, changes_in, AreAimed};
 ghost use Rattle.pn_join.specs.Blocks.{in_blocks, AreBlocks};
-ghost use Rattle.pn_join.specs.Edits.{changes_in, AreAimed};
-ghost use Rattle.pn_join.specs.TableChanges.{AreValid, puts};
+ghost use Rattle.pn_join.specs.Tables.{AreValid, puts};
 ghost use Rattle.pn_join.specs.TakenBlocks.{filled, was, becomes, ArePut, AreWithin, IsTaken, StayTaken};
 
 use crate::table::block::{OpenBlock, Opening};
@@ -65,7 +64,8 @@ fn open_blocks<K: Ord + Dup, C: Join>(
     requires none { taken.old.items ≡ [] }
     requires capacity { length all.items ≤ vec_capacity taken.old }
     ensures same { filled was taken.new.items (in_blocks blocks.new.items) ≡ in_blocks blocks.old.items }
-    ensures done { IfOk result (λ done. IsTrue done → ArePut K.cmp C.valid blocks.old.items (changes_in_blocks all.items) (filled becomes taken.new.items (in_blocks blocks.new.items))) }
+    ensures done { IfOk result (λ done. IsTrue done → ArePut K.cmp C.valid blocks.old.items
+        (changes_in_blocks all.items) (filled becomes taken.new.items (in_blocks blocks.new.items))) }
     ensures within { AreWithin taken.new.items (length blocks.new.items) }
     ensures len { vec_len blocks.new ≡ vec_len blocks.old }
 {

@@ -1,7 +1,7 @@
 -- What was written is the text of the value.
 use Rattle.std.proofs.Common.{◌≡◌, [], ◌∷◌, ◌++◌, rules}
 use Rattle.json.specs.Print.{print}
-use Rattle.pn_json.proofs.TokenLists.{line_written}
+use Rattle.pn_json.proofs.AppendedTexts.{line_written}
 use Rattle.pn_json.proofs.line.finish_line.Goals as goal
 
 pub returns : goal.returns

@@ -1,6 +1,6 @@
 -- A text found where it was expected is among all.
 use Rattle.std.proofs.Common.{rules, sym}
-use Rattle.pn_json.proofs.Names.{found_among}
+use Rattle.pn_json.proofs.LookUps.{found_among}
 use Rattle.pn_json.proofs.members.index_among.Goals as goal
 
 pub returns-in-Some : goal.returns-in-Some

@@ -1,6 +1,6 @@
 -- What was taken so far went to the line, and each piece is bytes of it.
 use Rattle.std.proofs.Common.{◌-◌, []}
-use Rattle.pn_line.specs.Reads.{Takes}
+use Rattle.pn_line.specs.Line.{Takes}
 use Rattle.pn_line.specs.declared.line_buffer.TheConstants.{ENDLESS}
 use Rattle.pn_line.proofs.reading.read_bounded_line.Given as goal
 

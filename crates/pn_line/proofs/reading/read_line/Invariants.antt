@@ -1,6 +1,6 @@
--- What was taken so far went to the line, and each look took at least a byte of it.
+-- What was taken so far went to the line, and each poll took at least a byte of it.
 use Rattle.std.proofs.Common.{◌+◌, ◌-◌, ◌≤◌, []}
-use Rattle.pn_line.specs.Reads.{Takes}
+use Rattle.pn_line.specs.Line.{Takes}
 use Rattle.pn_line.specs.declared.line_buffer.TheConstants.{ENDLESS}
 use Rattle.pn_line.proofs.reading.read_line.Given as goal
 
@@ -8,7 +8,7 @@ abbrev pub invariant-pieces : goal.invariant-pieces
 invariant-pieces g l = record {
   takes : Takes l.initial.line l.line (g.S.Source.left l.initial.source) (g.S.Source.left l.source) [];
   grows : l.initial.line.count ≤ l.line.count;
-  looks : g.S.Source.looks l.source + l.initial.line.count ≤ g.S.Source.looks l.initial.source + l.line.count;
+  polls : g.S.Source.polls l.source + l.initial.line.count ≤ g.S.Source.polls l.initial.source + l.line.count;
 }
 
 abbrev pub decreases-pieces : goal.decreases-pieces

@@ -1,9 +1,8 @@
 -- What was read and written so far, and fewer lines may be answered each time.
 use Rattle.std.proofs.Common.{◌≡◌, ◌+◌, ◌-◌, ◌≤◌, [], false, vec_capacity}
-use Rattle.pn_lines.specs.Driving.{Reads}
-use Rattle.pn_lines.specs.Ends.{looks_left, start_at}
-use Rattle.pn_lines.specs.declared.engine.stage.Stage.TheVariants.{Reading}
-use Rattle.pn_lines.specs.declared.piece_text.TheConstants.{MAX_PIECE_BYTES}
+use Rattle.pn_lines.specs.Driving.{Reads, polls_left, start_at}
+use Rattle.pn_lines.specs.declared.engine.state.Stage.TheVariants.{Reading}
+use Rattle.pn_lines.specs.declared.finding.TheConstants.{MAX_PIECE_BYTES}
 use Rattle.pn_lines.proofs.driver.run.Given as goal
 
 abbrev pub invariant-lines : goal.invariant-lines
@@ -13,7 +12,7 @@ invariant-lines g l = record {
   made : l.engine.left ≡ [];
   most : l.engine.most ≡ l.initial.engine.most;
   few : l.engine.counts.lines ≤ l.engine.most;
-  looks : g.S.Source.looks l.input + looks_left l.engine.counts.lines l.engine.most ≤ g.S.Source.looks l.initial.input + looks_left 0 l.initial.engine.most;
+  polls : g.S.Source.polls l.input + polls_left l.engine.counts.lines l.engine.most ≤ g.S.Source.polls l.initial.input + polls_left 0 l.initial.engine.most;
   room : MAX_PIECE_BYTES ≤ vec_capacity l.replies;
   grows : vec_capacity l.initial.replies ≤ vec_capacity l.replies;
   kept : g.M.LineHandler.keeps l.initial.machine l.machine;

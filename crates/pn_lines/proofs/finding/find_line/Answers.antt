@@ -1,7 +1,7 @@
 -- The first newline of the first bytes is the first of all.
 use Rattle.std.proofs.Common.{arith}
 use Rattle.pn_line.specs.declared.line_buffer.TheConstants.{MAX_KEPT_BYTES}
-use Rattle.pn_lines.proofs.Windows.{NewlineAt-window}
+use Rattle.pn_lines.proofs.Left.{NewlineAt-window}
 use Rattle.pn_lines.proofs.finding.find_line.Goals as goal
 
 pub returns-in-Some : goal.returns-in-Some

@@ -1,9 +1,9 @@
 -- One more note is learnt.
 use Rattle.std.proofs.Common.{length, sym, ap, ◌∙◌, subst, arith}
 use Rattle.std.specs.Vec.Iter.{into_iter_items}
-use Rattle.pn_live.specs.TabletReaders.{TabletReaderValue, Learns}
+use Rattle.pn_live.specs.Readers.{TabletReaderValue, Learns}
 use Rattle.pn_live.proofs.Learning.{own_book, one_learnt, all_learnt}
-use Rattle.pn_live.proofs.Walks.{nothing_left, past_of, rest_of}
+use Rattle.pn_live.proofs.Appending.{nothing_left, past_of, rest_of}
 use Rattle.pn_live.proofs.reader.learn_all.Goals as goal
 
 pub learn-requires : goal.learn-requires

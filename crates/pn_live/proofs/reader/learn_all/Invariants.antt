@@ -1,8 +1,8 @@
 -- The notes so far are learnt.
 use Rattle.std.proofs.Common.{◌≡◌, drop, length}
 use Rattle.std.specs.Vec.Iter.{into_iter_items, into_iter_len}
-use Rattle.pn_live.specs.TabletReaders.{Learns}
-use Rattle.pn_live.proofs.Walks.{DoneFirst}
+use Rattle.pn_live.specs.Readers.{Learns}
+use Rattle.pn_live.proofs.Appending.{DoneFirst}
 use Rattle.pn_live.proofs.reader.learn_all.Given as goal
 
 abbrev pub invariant-loop-note : goal.invariant-loop-note

@@ -2,8 +2,7 @@
 use Rattle.std.proofs.Common.{◌≡◌, ap, sym, subst, ◌∙◌, Some}
 use Rattle.pn_live.specs.declared.published_state.PublishedState.{PublishedState}
 use Rattle.pn_live.specs.Orders.{IsLater}
-use Rattle.pn_live.proofs.Orders.{turns}
-use Rattle.pn_live.proofs.Replays.{goes_on_from}
+use Rattle.pn_live.proofs.Prefixes.{turns, goes_on_from}
 use Rattle.pn_live.proofs.reader_handle.find.Goals as goal
 
 pub enter_as-requires : goal.enter_as-requires

@@ -3,9 +3,8 @@ use Rattle.std.proofs.Common.{sym, ap, ◌∙◌}
 use Rattle.std.proofs.lemmas.Cmp.{eq_by_cmp_equiv, lists_equiv}
 use Rattle.std.specs.Cmp.Lexicographic.{pointwise}
 use Rattle.std.specs.Ordering.{eq_by_cmp}
-use Rattle.pn_record.specs.Laws.Totals.{content_cmp_total}
-use Rattle.pn_record.specs.Laws.Unions.{tied_lists}
-use Rattle.pn_record.specs.Order.{content_cmp}
+use Rattle.pn_record.specs.Laws.{content_cmp_total, tied_lists}
+use Rattle.pn_record.specs.Sets.{content_cmp}
 use Rattle.pn_record.proofs.cell.are_same.Goals as goal
 
 pub returns : goal.returns

@@ -1,7 +1,7 @@
 -- One more field is copied.
 use Rattle.std.proofs.Common.{map, ap, ◌∙◌}
 use Rattle.pn_record.specs.Showing.{shown_field}
-use Rattle.pn_record.proofs.FieldSteps.{copied_more}
+use Rattle.pn_record.proofs.ShapeParts.{copied_more}
 use Rattle.pn_record.proofs.content.dup_fields.Goals as goal
 
 pub loop-field-preserved : goal.loop-field-preserved

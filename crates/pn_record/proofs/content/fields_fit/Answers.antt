@@ -1,9 +1,8 @@
 -- One more field fits and is counted.
 use Rattle.std.proofs.Common.{◌≡◌, true, sym, ap, ◌∙◌, arith}
-use Rattle.pn_record.specs.Bodies.{value_size}
-use Rattle.pn_record.specs.Limits.{is_field}
+use Rattle.pn_record.specs.Limits.{value_size, is_field}
 use Rattle.pn_record.specs.Showing.{shown_value, shown_field}
-use Rattle.pn_record.proofs.FieldSteps.{unfit, fit_more, size_more, size_bound}
+use Rattle.pn_record.proofs.ShapeParts.{unfit, fit_more, size_more, size_bound}
 use Rattle.pn_record.proofs.content.fields_fit.Goals as goal
 
 pub returns-then-not-fits : goal.returns-then-not-fits

@@ -1,8 +1,7 @@
 -- The fields so far fit, and their bytes are counted.
 use Rattle.std.proofs.Common.{◌≡◌, ◌*◌, ◌≤◌, true, map, take}
 use Rattle.std.specs.List.{list_all, sum_by}
-use Rattle.pn_record.specs.Bodies.{field_size}
-use Rattle.pn_record.specs.Limits.{is_field}
+use Rattle.pn_record.specs.Limits.{field_size, is_field}
 use Rattle.pn_record.specs.Showing.{shown_field}
 use Rattle.pn_record.proofs.content.fields_fit.Given as goal
 

@@ -1,7 +1,6 @@
 -- There is a number among the fields that are left exactly where there is one among all.
 use Rattle.std.proofs.Common.{◌≡◌, map, drop}
-use Rattle.pn_record.specs.Numbers.{have_number}
-use Rattle.pn_record.specs.Showing.{shown_field}
+use Rattle.pn_record.specs.Showing.{have_number, shown_field}
 use Rattle.pn_record.proofs.content.have_number.Given as goal
 
 abbrev pub invariant-loop-field : goal.invariant-loop-field

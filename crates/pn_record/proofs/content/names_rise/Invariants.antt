@@ -1,6 +1,6 @@
 -- The names so far rise.
 use Rattle.std.proofs.Common.{◌≡◌, true, map, take}
-use Rattle.pn_record.specs.Bodies.{names_rise}
+use Rattle.pn_record.specs.Limits.{names_rise}
 use Rattle.pn_record.specs.Showing.{shown_field}
 use Rattle.pn_record.proofs.content.names_rise.Given as goal
 

@@ -2,7 +2,7 @@
 use Rattle.std.proofs.Common.{List, ◌++◌, sym, ap, ◌∙◌, subst}
 use Rattle.pn_record.specs.Limits.{ContentValue}
 use Rattle.pn_record.specs.Sets.{set_of}
-use Rattle.pn_record.proofs.Gathering.{MergedSoFar, begun, loop_less, loop_equal, loop_greater, ended}
+use Rattle.pn_record.proofs.Sorted.{MergedSoFar, begun, loop_less, loop_equal, loop_greater, ended}
 use Rattle.pn_record.proofs.held_contents.merge_contents.Goals as goal
 
 pub loop-x-init : goal.loop-x-init

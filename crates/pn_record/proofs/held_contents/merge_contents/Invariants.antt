@@ -1,6 +1,6 @@
 -- What is gathered lies before what is left of both, and all together are the contents of both.
 use Rattle.std.proofs.Common.{◌+◌, length}
-use Rattle.pn_record.proofs.Gathering.{MergedSoFar}
+use Rattle.pn_record.proofs.Sorted.{MergedSoFar}
 use Rattle.pn_record.proofs.held_contents.merge_contents.Given as goal
 
 abbrev pub invariant-loop-x : goal.invariant-loop-x

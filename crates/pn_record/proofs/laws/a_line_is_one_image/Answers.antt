@@ -1,6 +1,6 @@
-use Rattle.pn_record.specs.Canonical.{IsImage}
+use Rattle.pn_record.specs.Reading.{IsImage}
 use Rattle.pn_record.specs.Grammar.{image_in}
-use Rattle.pn_record.proofs.Lines.{line_unique}
+use Rattle.pn_record.proofs.ImageLines.{line_unique}
 use Rattle.pn_record.proofs.SameImage.{image_again}
 use Rattle.pn_record.proofs.laws.a_line_is_one_image.Goals as goal
 

@@ -3,7 +3,7 @@ use Rattle.std.proofs.Common.{[], ◌∷◌, sym, subst}
 use Rattle.std.proofs.lemmas.Result.{on_ok_weaker}
 use Rattle.pn_record.specs.Sets.{CellValue}
 use Rattle.pn_record.specs.Cells.{Holds}
-use Rattle.pn_record.proofs.HeldRecords.{Holds-joined, Holds-one}
+use Rattle.pn_record.proofs.CellMaps.{Holds-joined, Holds-one}
 use Rattle.pn_record.proofs.records.add_image.Goals as goal
 
 pub returns-clause-ok : goal.returns-clause-ok

@@ -1,7 +1,6 @@
 -- The join of tables holds the lists of both.
 use Rattle.std.proofs.lemmas.Result.{on_ok_weaker}
-use Rattle.pn_record.proofs.HeldRecords.{find-joined, Holds-joined, Holds-spell}
-use Rattle.pn_record.proofs.CellMaps.{held_adds}
+use Rattle.pn_record.proofs.CellMaps.{find-joined, Holds-joined, Holds-spell, held_adds}
 use Rattle.pn_record.proofs.records.join_records.Goals as goal
 
 pub returns-clause-lists : goal.returns-clause-lists

@@ -1,8 +1,8 @@
 -- One name more is counted, or is not one that all have.
 use Rattle.std.proofs.Common.{length, map, sym, ap, ◌∙◌, arith}
 use Rattle.std.specs.Int.{from_bool}
-use Rattle.pn_region.specs.Relayouts.{least_cover}
-use Rattle.pn_region.proofs.CommonMarks.{all_have, passing, have_mapped, first_names, count_on}
+use Rattle.pn_region.specs.Recovery.{least_cover}
+use Rattle.pn_region.proofs.Advanced.{all_have, passing, have_mapped, first_names, count_on}
 use Rattle.pn_region.proofs.advancing.count_common.Goals as goal
 
 pub loop-name-init : goal.loop-name-init

@@ -1,7 +1,7 @@
 -- The count so far, with that of the names that are left, is how many streams all have.
 use Rattle.std.proofs.Common.{◌≡◌, ◌+◌, ◌-◌, ◌^◌, ◌≤◌, min, length, map}
-use Rattle.pn_region.specs.Relayouts.{least_cover}
-use Rattle.pn_region.proofs.CommonMarks.{all_have, passing}
+use Rattle.pn_region.specs.Recovery.{least_cover}
+use Rattle.pn_region.proofs.Advanced.{all_have, passing}
 use Rattle.pn_region.proofs.advancing.count_common.Given as goal
 
 abbrev pub invariant-loop-name : goal.invariant-loop-name

@@ -1,7 +1,7 @@
 -- The least with the cover of one more tablet.
 use Rattle.std.proofs.Common.{IsTrue, sym, ap, ◌∙◌, subst}
 use Rattle.pn_region.proofs.Common.{Positions, are_positions}
-use Rattle.pn_region.proofs.CommonMarks.{least_step}
+use Rattle.pn_region.proofs.Advanced.{least_step}
 use Rattle.pn_region.proofs.PartMarks.{with_own, least_positions}
 use Rattle.pn_region.proofs.advancing.least_of.Goals as goal
 

@@ -1,7 +1,7 @@
 -- The laws are lemmas.
 use Rattle.std.proofs.Common.{[], map, refl}
 use Rattle.pn_region.proofs.Common.{empty_tablet, ranges}
-use Rattle.pn_region.proofs.NewRegion.{new_is}
+use Rattle.pn_region.proofs.RoundSteps.{new_is}
 use Rattle.pn_region.proofs.TakenImages.{new_has, new_between}
 use Rattle.pn_region.proofs.laws.a_new_region_has_taken_nothing.Goals as goal
 

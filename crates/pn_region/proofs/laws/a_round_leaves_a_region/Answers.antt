@@ -1,8 +1,7 @@
 -- The laws are lemmas.
 use Rattle.std.proofs.Common.{refl}
 use Rattle.pn_region.proofs.Common.{all_stepped, joins}
-use Rattle.pn_region.proofs.HalfRounds.{half_taken_is}
-use Rattle.pn_region.proofs.RoundEnds.{new_region_is}
+use Rattle.pn_region.proofs.RoundEnds.{half_taken_is, new_region_is}
 use Rattle.pn_region.proofs.laws.a_round_leaves_a_region.Goals as goal
 
 pub returns-clause-taken : goal.returns-clause-taken

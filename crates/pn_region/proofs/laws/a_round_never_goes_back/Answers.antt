@@ -1,5 +1,5 @@
 -- The laws are lemmas.
-use Rattle.pn_region.proofs.NeverBack.{round_not_older, half_not_older}
+use Rattle.pn_region.proofs.RoundEnds.{round_not_older, half_not_older}
 use Rattle.pn_region.proofs.laws.a_round_never_goes_back.Goals as goal
 
 pub returns-clause-taken : goal.returns-clause-taken

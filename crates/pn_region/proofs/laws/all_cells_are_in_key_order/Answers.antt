@@ -1,5 +1,5 @@
 -- The laws are lemmas.
-use Rattle.pn_region.proofs.Ordered.{all_rising, all_spelled}
+use Rattle.pn_region.proofs.TakenImages.{all_rising, all_spelled}
 use Rattle.pn_region.proofs.laws.all_cells_are_in_key_order.Goals as goal
 
 pub returns-clause-rising : goal.returns-clause-rising

@@ -1,5 +1,5 @@
 -- The laws are lemmas.
-use Rattle.pn_region.proofs.Together.{together, surely_together}
+use Rattle.pn_region.proofs.TakenImages.{together, surely_together}
 use Rattle.pn_region.proofs.laws.all_cells_are_those_of_the_images_taken.Goals as goal
 
 pub returns-clause-images : goal.returns-clause-images

@@ -1,5 +1,5 @@
 -- The laws are lemmas.
-use Rattle.pn_region.proofs.FaithfulCopies.{lost_faithful, adopted_faithful, serving_has_all, given_is_honest}
+use Rattle.pn_region.proofs.FaithfulEvents.{lost_faithful, adopted_faithful, serving_has_all, given_is_honest}
 use Rattle.pn_region.proofs.laws.honest_copies_keep_tablets_faithful.Goals as goal
 
 pub returns-clause-lost : goal.returns-clause-lost

@@ -1,5 +1,5 @@
 -- The laws are lemmas.
-use Rattle.pn_region.proofs.StreamCount.{few_streams, many_streams, never_memory}
+use Rattle.pn_region.proofs.Following.{few_streams, many_streams, never_memory}
 use Rattle.pn_region.proofs.laws.new_marks_name_at_most_16_streams.Goals as goal
 
 pub returns-clause-few : goal.returns-clause-few

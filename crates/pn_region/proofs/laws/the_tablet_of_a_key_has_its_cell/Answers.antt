@@ -1,5 +1,5 @@
 -- The laws are lemmas.
-use Rattle.pn_region.proofs.KeyTablets.{has_tablet, has_its_cell}
+use Rattle.pn_region.proofs.Standing.{has_tablet, has_its_cell}
 use Rattle.pn_region.proofs.laws.the_tablet_of_a_key_has_its_cell.Goals as goal
 
 pub returns-clause-there : goal.returns-clause-there

@@ -3,9 +3,9 @@ use Rattle.std.proofs.Common.{◌≡◌, ◌+◌, ◌<◌, true, [], ◌∷◌, 
 use Rattle.std.proofs.lemmas.List.{get_or-map, length-map, take-map}
 use Rattle.std.specs.Int.{from_bool}
 use Rattle.pn_region.proofs.Common.{Ok, Err, is_sorted, Positions, name_cmp, are_positions, DeliveryValue, with_images, with_deliveries, marks_after}
-use Rattle.pn_region.proofs.MarkSteps.{marks_more, gap_met}
+use Rattle.pn_region.proofs.MarkLaws.{marks_more, gap_met}
 use Rattle.pn_region.proofs.Following.{marked_more, marked_rising, streams_more}
-use Rattle.pn_stream.proofs.Runs.{handed_on}
+use Rattle.pn_stream.proofs.Runs.{passed_on}
 use Rattle.pn_region.proofs.marking.check_marks.Goals as goal
 
 pub is_new_stream-requires-clause-positions : goal.is_new_stream-requires-clause-positions
@@ -28,7 +28,7 @@ returns-in_err-is_new-clause-refused g c =
     let before : map f (take i bs) ≡ take i (map f bs) = sym (take-map f i bs) in
     let n = with_deliveries m (take i (map f bs)) in
     let fault = c.in_err-is_new.field-0.0 in
-    handed_on c.from_residual.result fault _ c.from_residual.ensures.1
+    passed_on c.from_residual.result fault _ c.from_residual.ensures.1
     (gap_met m n (map f bs) i (f b) fault within c.loop-index.invariant.so_far
     (subst (λ (x : DeliveryValue). marks_after n (with_images (x ∷ [])) ≡ Err fault) here
     (subst (λ (ds : List DeliveryValue). marks_after (with_deliveries m ds) (with_images (f b ∷ [])) ≡ Err fault) before c.in_err-is_new.ensures.refused)))

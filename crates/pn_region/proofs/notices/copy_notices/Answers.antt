@@ -3,7 +3,7 @@ use Rattle.std.proofs.Common.{◌≡◌, ◌+◌, ◌++◌, List, length, drop, 
 use Rattle.std.proofs.lemmas.List.{length_push}
 use Rattle.pn_region.specs.declared.notices.Notice.{Notice}
 use Rattle.pn_region.specs.Log.{notices_from}
-use Rattle.pn_region.proofs.Telling.{told_more}
+use Rattle.pn_region.proofs.LogLaws.{told_more}
 use Rattle.pn_region.proofs.notices.copy_notices.Goals as goal
 
 pub loop-index-preserved : goal.loop-index-preserved

@@ -1,8 +1,8 @@
 -- Each page is the first of rows that rise.
 use Rattle.pn_join.proofs.Rising.{sorted_from_Rising}
-use Rattle.pn_scan.specs.Walks.{rows_of}
+use Rattle.pn_scan.specs.Views.{rows_of}
 use Rattle.pn_region.proofs.Common.{bytes_cmp}
-use Rattle.pn_region.proofs.PageWalks.{answered_rise}
+use Rattle.pn_region.proofs.ReadLaws.{answered_rise}
 use Rattle.pn_region.proofs.read_laws.keys_rise_from_page_to_page.Goals as goal
 
 pub returns : goal.returns

@@ -1,5 +1,5 @@
 -- The cells of all tablets rise, and each continuation asks for the rows after its page.
-use Rattle.pn_region.proofs.PageWalks.{pages_walked, pages_end, pages_of_cells}
+use Rattle.pn_region.proofs.ReadLaws.{pages_walked, pages_end, pages_of_cells}
 use Rattle.pn_region.proofs.read_laws.pages_together_are_the_shown_rows.Goals as goal
 
 pub returns-clause-walked : goal.returns-clause-walked

@@ -1,7 +1,7 @@
 -- Both answer from the same map.
 use Rattle.std.proofs.Common.{Ok, map, sym, ap, ◌∙◌}
 use Rattle.pn_scan.specs.Shown.{shown_rows}
-use Rattle.pn_scan.specs.Reads.{unless_behind}
+use Rattle.pn_scan.specs.Views.{unless_behind}
 use Rattle.pn_region.proofs.Common.{find, Entries, bytes_cmp, first_page}
 use Rattle.pn_region.proofs.ReadLaws.{read_of_all, get_of_all, page_of_all}
 use Rattle.pn_region.proofs.read_laws.regions_of_the_same_cells_answer_alike.Goals as goal

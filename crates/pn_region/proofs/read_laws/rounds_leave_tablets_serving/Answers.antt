@@ -1,5 +1,5 @@
 -- A join leaves the status as it is.
-use Rattle.pn_region.proofs.ServingTablets.{new_serves, taken_serves, half_serves}
+use Rattle.pn_region.proofs.RoundEnds.{new_serves, taken_serves, half_serves}
 use Rattle.pn_region.proofs.read_laws.rounds_leave_tablets_serving.Goals as goal
 
 pub returns-clause-new : goal.returns-clause-new

@@ -1,6 +1,6 @@
 -- The laws are lemmas.
 use Rattle.pn_region.proofs.Repeats.{makes_up}
-use Rattle.pn_region.proofs.RisingRegions.{new_region_rises, event_rises}
+use Rattle.pn_region.proofs.Events.{new_region_rises, event_rises}
 use Rattle.pn_region.proofs.recovery_laws.a_repeated_round_makes_up_for_a_failed_one.Goals as goal
 
 pub returns-clause-makes_up : goal.returns-clause-makes_up

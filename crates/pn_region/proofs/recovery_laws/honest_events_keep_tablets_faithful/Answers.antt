@@ -1,6 +1,5 @@
 -- The laws are lemmas.
-use Rattle.pn_region.proofs.FaithfulEvents.{event_faithful, events_faithful, faithful_at}
-use Rattle.pn_region.proofs.FaithfulCopies.{given_is_honest}
+use Rattle.pn_region.proofs.FaithfulEvents.{event_faithful, events_faithful, faithful_at, given_is_honest}
 use Rattle.pn_region.proofs.recovery_laws.honest_events_keep_tablets_faithful.Goals as goal
 
 pub returns-clause-event : goal.returns-clause-event

@@ -1,5 +1,5 @@
 -- The laws are lemmas.
-use Rattle.pn_region.proofs.ServedRecords.{not_older, event_record, events_record}
+use Rattle.pn_region.proofs.KeptEvents.{not_older, event_record, events_record}
 use Rattle.pn_region.proofs.recovery_laws.records_served_never_go_back.Goals as goal
 
 pub returns-clause-event : goal.returns-clause-event

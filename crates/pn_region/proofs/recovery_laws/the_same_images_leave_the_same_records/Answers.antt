@@ -1,5 +1,5 @@
 -- The laws are lemmas.
-use Rattle.pn_region.specs.Taken.{all_taken}
+use Rattle.pn_region.specs.Events.{all_taken}
 use Rattle.pn_region.proofs.EventImages.{taken_together, alike}
 use Rattle.pn_region.proofs.recovery_laws.the_same_images_leave_the_same_records.Goals as goal
 

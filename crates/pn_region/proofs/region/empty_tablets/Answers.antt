@@ -1,7 +1,7 @@
 -- One more empty tablet.
 use Rattle.std.proofs.Common.{◌+◌, length, ap, ◌∙◌}
 use Rattle.std.proofs.lemmas.List.{length_push}
-use Rattle.pn_region.proofs.NewRegion.{empty_more}
+use Rattle.pn_region.proofs.RoundSteps.{empty_more}
 use Rattle.pn_region.proofs.region.empty_tablets.Goals as goal
 
 pub loop-tablet-preserved : goal.loop-tablet-preserved

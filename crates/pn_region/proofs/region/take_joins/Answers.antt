@@ -2,10 +2,9 @@
 use Rattle.std.proofs.Common.{List, length, sym, ap, subst, arith}
 use Rattle.pn_tablet.specs.Tablets.{TabletStateValue}
 use Rattle.pn_apply.specs.Applying.{AreJoinsIn}
-use Rattle.pn_apply.proofs.Prefixes.{all_old}
-use Rattle.pn_region.proofs.Counting.{all_told}
+use Rattle.pn_apply.proofs.Turns.{all_old}
+use Rattle.pn_region.proofs.RoundSteps.{all_told, same_list}
 use Rattle.pn_region.proofs.RoundEnds.{none_taken}
-use Rattle.pn_region.proofs.RoundSteps.{same_list}
 use Rattle.pn_region.proofs.region.take_joins.Goals as goal
 
 pub returns-then-not-can_be_counted-clause-err : goal.returns-then-not-can_be_counted-clause-err

@@ -1,6 +1,6 @@
 -- One more condition is copied.
 use Rattle.std.proofs.Common.{map, ap, ◌∙◌}
-use Rattle.pn_scan.proofs.Copied.{copied_more}
+use Rattle.pn_scan.proofs.Conditions.{copied_more}
 use Rattle.pn_scan.specs.Queries.{shown_condition}
 use Rattle.pn_scan.proofs.condition.copy_conditions.Goals as goal
 

@@ -2,9 +2,9 @@
 use Rattle.std.proofs.Common.{sym, ap, ◌∙◌, arith}
 use Rattle.std.specs.Str.{bytes_eq}
 use Rattle.std.proofs.lemmas.Map.Text.{is_eq-slice_cmp}
-use Rattle.pn_record.specs.Order.{bytes_cmp}
+use Rattle.pn_record.specs.Sets.{bytes_cmp}
 use Rattle.pn_record.specs.Showing.{shown_field}
-use Rattle.pn_scan.proofs.FieldWalk.{one_found, one_passed, none_left}
+use Rattle.pn_scan.proofs.Conditions.{one_found, one_passed, none_left}
 use Rattle.pn_scan.proofs.filter.field_value.Goals as goal
 
 pub returns-then-eq : goal.returns-then-eq

@@ -1,7 +1,7 @@
 -- The field is among those that are left.
 use Rattle.std.proofs.Common.{◌≡◌, map, drop}
 use Rattle.std.specs.FinMap.{find}
-use Rattle.pn_record.specs.Order.{bytes_cmp}
+use Rattle.pn_record.specs.Sets.{bytes_cmp}
 use Rattle.pn_record.specs.Showing.{shown_field}
 use Rattle.pn_scan.proofs.filter.field_value.Given as goal
 

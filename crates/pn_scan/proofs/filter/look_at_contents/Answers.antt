@@ -1,7 +1,7 @@
 -- A content that meets the conditions decides; one that is too much is left.
 use Rattle.std.proofs.Common.{◌≡◌, ◌+◌, ◌≤◌, ◌<◌, length, max, inl, inr, map, refl, sym, ap, ◌∙◌, arith}
 use Rattle.pn_scan.specs.Queries.{shown_condition}
-use Rattle.pn_scan.proofs.Works.{no_work, none_shows, one_hides, one_shows, went_on, work_hidden, work_shown}
+use Rattle.pn_scan.proofs.Walking.{no_work, none_shows, one_hides, one_shows, went_on, work_hidden, work_shown}
 use Rattle.pn_scan.proofs.filter.look_at_contents.Goals as goal
 
 pub loop-index-init : goal.loop-index-init

@@ -1,7 +1,7 @@
 -- None of the contents so far meets the conditions, and what they count for is counted.
 use Rattle.std.proofs.Common.{◌≡◌, ◌<◌, ◌≤◌, ◌⊎◌, ◌+◌, map, drop, max}
 use Rattle.pn_scan.specs.Queries.{shown_condition}
-use Rattle.pn_scan.specs.Works.{contents_work, shows_from}
+use Rattle.pn_scan.specs.Shown.{contents_work, shows_from}
 use Rattle.pn_scan.proofs.filter.look_at_contents.Given as goal
 
 abbrev pub invariant-loop-index : goal.invariant-loop-index

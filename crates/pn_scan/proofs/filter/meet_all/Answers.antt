@@ -1,9 +1,8 @@
 -- One that is not met decides; at the end all are.
 use Rattle.std.proofs.Common.{sym, ◌∙◌, map, arith}
 use Rattle.pn_record.specs.Showing.{shown_field}
-use Rattle.pn_scan.specs.Queries.{shown_condition}
-use Rattle.pn_scan.specs.Conditions.{meets}
-use Rattle.pn_scan.proofs.EachMet.{one_fails, one_passes, all_passed}
+use Rattle.pn_scan.specs.Queries.{shown_condition, meets}
+use Rattle.pn_scan.proofs.Conditions.{one_fails, one_passes, all_passed}
 use Rattle.pn_scan.proofs.filter.meet_all.Goals as goal
 
 pub returns-then-not-meet : goal.returns-then-not-meet

@@ -1,9 +1,8 @@
 -- All are met where those that are left are.
 use Rattle.std.proofs.Common.{◌≡◌, map}
 use Rattle.pn_record.specs.Showing.{shown_field}
-use Rattle.pn_scan.specs.Queries.{shown_condition}
-use Rattle.pn_scan.specs.Conditions.{meets}
-use Rattle.pn_scan.proofs.EachMet.{rest}
+use Rattle.pn_scan.specs.Queries.{shown_condition, meets}
+use Rattle.pn_scan.proofs.Conditions.{rest}
 use Rattle.pn_scan.proofs.filter.meet_all.Given as goal
 
 abbrev pub invariant-loop-condition : goal.invariant-loop-condition

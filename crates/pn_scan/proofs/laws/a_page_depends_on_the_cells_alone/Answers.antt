@@ -1,6 +1,6 @@
 -- Both pages are cut from the same rows.
 use Rattle.std.proofs.Common.{Ok, sym, ap, ◌∙◌}
-use Rattle.pn_record.specs.CellMap.{Entries}
+use Rattle.pn_record.specs.Cells.{Entries}
 use Rattle.pn_scan.specs.Shown.{shown_rows}
 use Rattle.pn_scan.specs.Pages.{first_page}
 use Rattle.pn_scan.proofs.WalkLaws.{page_of_cells}

@@ -1,9 +1,9 @@
 -- The rows of a page rise, and its continuation excludes the last of them.
 use Rattle.std.proofs.Common.{Some}
 use Rattle.pn_join.proofs.Rising.{sorted_from_Rising}
-use Rattle.pn_record.specs.Order.{bytes_cmp}
-use Rattle.pn_scan.specs.Walks.{rows_of}
-use Rattle.pn_scan.proofs.RisingPages.{pages_rise}
+use Rattle.pn_record.specs.Sets.{bytes_cmp}
+use Rattle.pn_scan.specs.Views.{rows_of}
+use Rattle.pn_scan.proofs.WalkLaws.{pages_rise}
 use Rattle.pn_scan.proofs.laws.keys_rise_from_page_to_page.Goals as goal
 
 pub returns : goal.returns

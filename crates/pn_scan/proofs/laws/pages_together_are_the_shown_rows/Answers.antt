@@ -1,6 +1,6 @@
 -- Each continuation asks for the rows after its page, which are fewer each time.
 use Rattle.pn_join.proofs.Rising.{Rising-from_sorted}
-use Rattle.pn_record.specs.Order.{bytes_cmp}
+use Rattle.pn_record.specs.Sets.{bytes_cmp}
 use Rattle.pn_scan.proofs.WalkLaws.{walked, walk_ends}
 use Rattle.pn_scan.proofs.laws.pages_together_are_the_shown_rows.Goals as goal
 

@@ -1,7 +1,7 @@
 -- The candidates are the tablets from the greater of two on, up to the end.
 use Rattle.std.proofs.Common.{max, sym, ap, ◌∙◌}
 use Rattle.pn_tablet.specs.Layouts.{tablet_ends}
-use Rattle.pn_scan.specs.Candidates.{first_tablet, begins_before}
+use Rattle.pn_scan.specs.Pages.{first_tablet, begins_before}
 use Rattle.pn_scan.proofs.CandidateRange.{candidates_between}
 use Rattle.pn_scan.proofs.pages.candidates.Goals as goal
 

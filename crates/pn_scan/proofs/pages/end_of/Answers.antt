@@ -1,9 +1,8 @@
 -- The tablet of the end is a candidate where it begins before the end; those below it are, and none above it.
 use Rattle.std.proofs.Common.{◌+◌, true, false, Some, sym, ap, ◌∙◌}
 use Rattle.std.specs.Option.{option_copied}
-use Rattle.pn_tablet.specs.Layouts.{tablet_ends}
-use Rattle.pn_tablet.specs.Ranges.{Ends}
-use Rattle.pn_scan.specs.Candidates.{begins_before}
+use Rattle.pn_tablet.specs.Layouts.{tablet_ends, Ends}
+use Rattle.pn_scan.specs.Pages.{begins_before}
 use Rattle.pn_scan.proofs.CandidateRange.{ends_there}
 use Rattle.pn_scan.proofs.pages.end_of.Goals as goal
 

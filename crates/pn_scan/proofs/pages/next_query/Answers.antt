@@ -2,7 +2,7 @@
 use Rattle.std.proofs.Common.{ℕ, List, Some, option_map, sym, ap, ◌∙◌}
 use Rattle.pn_record.specs.Sets.{CellValue}
 use Rattle.pn_scan.specs.Queries.{query_after}
-use Rattle.pn_scan.proofs.PageEnds.{last_index}
+use Rattle.pn_scan.proofs.Scans.{last_index}
 use Rattle.pn_scan.proofs.pages.next_query.Goals as goal
 
 pub returns-in_ok-continue_after-in-Some : goal.returns-in_ok-continue_after-in-Some

@@ -1,7 +1,7 @@
 -- The walk begins where the first may be shown, and comes to the answer with what it took of the others.
 use Rattle.std.proofs.Common.{drop, max, ◌∙◌, arith}
 use Rattle.std.proofs.lemmas.Result.{IfOk-weaker}
-use Rattle.pn_record.specs.CellMap.{Entries}
+use Rattle.pn_record.specs.Cells.{Entries}
 use Rattle.pn_scan.proofs.Looking.{begun_answer, same_answer}
 use Rattle.pn_scan.proofs.part.begin_walk.Goals as goal
 

@@ -1,7 +1,7 @@
 -- The key at the index is not below the end, and none after it.
 use Rattle.std.proofs.Common.{sym}
 use Rattle.pn_join.proofs.Rising.{Rising-from_sorted}
-use Rattle.pn_record.specs.Order.{bytes_cmp}
+use Rattle.pn_record.specs.Sets.{bytes_cmp}
 use Rattle.pn_scan.proofs.Looking.{none_from_end}
 use Rattle.pn_scan.proofs.part.end_of_range.Goals as goal
 

@@ -1,7 +1,7 @@
 -- Keys before it are below `from`, or not above `after`.
 use Rattle.std.proofs.Common.{ap, ◌∙◌, drop}
 use Rattle.pn_join.proofs.Rising.{Rising-from_sorted}
-use Rattle.pn_record.specs.Order.{bytes_cmp}
+use Rattle.pn_record.specs.Sets.{bytes_cmp}
 use Rattle.pn_scan.specs.Shown.{shown_rows}
 use Rattle.pn_scan.proofs.Walking.{lesser_at, begin_there}
 use Rattle.pn_scan.proofs.part.first_index.Goals as goal

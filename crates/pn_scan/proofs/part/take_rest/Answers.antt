@@ -1,6 +1,6 @@
 -- What was taken shows what all show.
 use Rattle.std.proofs.Common.{ap, ◌∙◌}
-use Rattle.pn_scan.specs.Parts.{walk_answer}
+use Rattle.pn_scan.specs.Paging.{walk_answer}
 use Rattle.pn_scan.proofs.Looking.{slice_answer}
 use Rattle.pn_scan.proofs.part.take_rest.Goals as goal
 

@@ -1,6 +1,6 @@
 -- Fewer than three parts, or more, are no such condition.
 use Rattle.std.proofs.Common.{sym, rules}
-use Rattle.pn_scan.proofs.ConditionParts.{comparing_few, comparing_many}
+use Rattle.pn_scan.proofs.Conditions.{comparing_few, comparing_many}
 use Rattle.pn_scan.proofs.unchecked_conditions.comparing_condition.Goals as goal
 use Rattle.pn_scan.proofs.unchecked_conditions.comparing_condition.Goals.{in_default-via-then-parts-lt3, in_default-via-else-parts-lt3+else-parts-lt4}
 

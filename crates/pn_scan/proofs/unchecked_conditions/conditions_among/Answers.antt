@@ -1,6 +1,6 @@
 -- All values are conditions, or not.
 use Rattle.std.proofs.Common.{sym}
-use Rattle.pn_scan.proofs.ConditionLists.{all_read, not_all_read}
+use Rattle.pn_scan.proofs.Conditions.{all_read, not_all_read}
 use Rattle.pn_scan.proofs.unchecked_conditions.conditions_among.Goals as goal
 
 pub returns-in_default-clause-exact : goal.returns-in_default-clause-exact

@@ -1,7 +1,7 @@
 -- One value more is a condition, or one is none; at the end all are.
 use Rattle.std.proofs.Common.{length, nat_le, sym, ◌∙◌, arith}
 use Rattle.pn_scan.specs.declared.query.TheConstants.{MAX_CONDITIONS}
-use Rattle.pn_scan.proofs.ConditionLists.{bad_at, one_more_is, one_more_fits, one_more_shown, same_parsed}
+use Rattle.pn_scan.proofs.Conditions.{bad_at, one_more_is, one_more_fits, one_more_shown, same_parsed}
 use Rattle.pn_scan.proofs.unchecked_conditions.parse_conditions.Goals as goal
 
 pub loop-value-preserved : goal.loop-value-preserved

@@ -2,7 +2,7 @@
 use Rattle.std.proofs.Common.{◌≡◌, ◌&&◌, nat_le, map, length, take, IsTrue, IfSome}
 use Rattle.pn_scan.specs.Queries.{shown_condition}
 use Rattle.pn_scan.specs.declared.query.TheConstants.{MAX_CONDITIONS}
-use Rattle.pn_scan.specs.UncheckedQueries.{conditions_among, are_conditions, all_fit}
+use Rattle.pn_scan.specs.QueryReading.{conditions_among, are_conditions, all_fit}
 use Rattle.pn_scan.proofs.unchecked_conditions.parse_conditions.Given as goal
 
 abbrev pub invariant-loop-value : goal.invariant-loop-value

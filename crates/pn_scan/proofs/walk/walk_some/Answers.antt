@@ -2,13 +2,10 @@
 use Rattle.std.proofs.Common.{◌≡◌, ℕ, ◌+◌, ◌++◌, ◌∷◌, [], List, length, drop, max, true, false, inl, inr, refl, sym, ap, ◌∙◌, subst, rules, arith}
 use Rattle.std.proofs.lemmas.List.{length_push}
 use Rattle.pn_join.proofs.Rising.{Rising, Rising-from_sorted}
-use Rattle.pn_record.specs.CellMap.{Entries}
-use Rattle.pn_record.specs.Order.{bytes_cmp}
-use Rattle.pn_record.specs.Sets.{CellValue}
-use Rattle.pn_tablet.specs.Ranges.{is_before}
-use Rattle.pn_scan.specs.Shown.{is_shown_from, rows_from}
-use Rattle.pn_scan.specs.Walking.{place_rows}
-use Rattle.pn_scan.specs.Works.{records_work}
+use Rattle.pn_record.specs.Cells.{Entries}
+use Rattle.pn_record.specs.Sets.{bytes_cmp, CellValue}
+use Rattle.pn_tablet.specs.Layouts.{is_before}
+use Rattle.pn_scan.specs.Shown.{is_shown_from, rows_from, place_rows, records_work}
 use Rattle.pn_scan.proofs.Looking.{dropped_more, stands_below, hidden_step, shown_step, shown_there, seen_step, past_rows, no_rows, work_step, went, went_within, not_back}
 use Rattle.pn_scan.proofs.Walking.{rising_drop, all_found, more_found}
 use Rattle.pn_scan.proofs.walk.walk_some.Goals as goal

@@ -1,10 +1,8 @@
 -- The rows so far, and those of what is left, are those before and all that are shown; what was looked at is counted.
 use Rattle.std.proofs.Common.{◌≡◌, ◌<◌, ◌≤◌, ◌⊎◌, ◌+◌, ◌++◌, length, drop, max}
 use Rattle.pn_join.proofs.Rising.{Rising}
-use Rattle.pn_record.specs.Order.{bytes_cmp}
-use Rattle.pn_scan.specs.Shown.{rows_from}
-use Rattle.pn_scan.specs.Walking.{place_rows, place_work}
-use Rattle.pn_scan.specs.Works.{records_work}
+use Rattle.pn_record.specs.Sets.{bytes_cmp}
+use Rattle.pn_scan.specs.Shown.{rows_from, place_rows, place_work, records_work}
 use Rattle.pn_scan.proofs.walk.walk_some.Given as goal
 
 abbrev pub invariant-loop-key : goal.invariant-loop-key

@@ -1,6 +1,6 @@
 -- New readers of a live region are its own.
-use Rattle.pn_serve.proofs.Owned.{own_new}
+use Rattle.pn_serve.proofs.Knowing.{own_new}
 use Rattle.pn_serve.proofs.server.open_region.Goals as goal
 
 pub returns-in-Ok-clause-own : goal.returns-in-Ok-clause-own
-returns-in-Ok-clause-own g c = own_new c.in-Ok.opened.0 c.in-Ok.opened.1.items c.in-Ok.ensures.readers
+returns-in-Ok-clause-own g c = own_new c.in-Ok.live c.in-Ok.readers.items c.in-Ok.ensures.readers

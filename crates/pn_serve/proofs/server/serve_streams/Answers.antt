@@ -1,7 +1,7 @@
 -- The mailboxes and threads are those of the streams.
 use Rattle.std.proofs.Common.{sym, ◌∙◌}
-use Rattle.pn_serve.specs.Server.Sent.{IsSent}
-use Rattle.pn_serve.proofs.ServedStreams.{not_begun, reading_ends}
+use Rattle.pn_serve.specs.Server.Publishers.{IsSent}
+use Rattle.pn_serve.proofs.RoundsRead.{not_begun, reading_ends}
 use Rattle.pn_serve.proofs.server.serve_streams.Goals as goal
 
 pub join_sessions-requires-clause-readers : goal.join_sessions-requires-clause-readers

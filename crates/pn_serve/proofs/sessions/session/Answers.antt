@@ -2,9 +2,8 @@
 use Rattle.std.proofs.Common.{sym, subst, ◌∙◌}
 use Rattle.pn_live.specs.Readers.{LiveReaderValue}
 use Rattle.pn_scan.specs.Paging.{Stays}
-use Rattle.pn_serve.specs.Lines.Ends.{EndsBy}
-use Rattle.pn_serve.specs.Session.Alone.{reader_of}
-use Rattle.pn_serve.specs.Session.Knowing.{KnowsNoLess}
+use Rattle.pn_serve.specs.Lines.{EndsBy}
+use Rattle.pn_serve.specs.Session.Resuming.{reader_of, KnowsNoLess}
 use Rattle.pn_serve.specs.Session.Lines.{AnswersLine, EndsLines, session_start}
 use Rattle.pn_serve.proofs.Ending.{run_ends}
 use Rattle.pn_serve.proofs.Knowing.{knows_itself}

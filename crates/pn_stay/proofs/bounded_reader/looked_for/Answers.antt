@@ -3,8 +3,8 @@ use Rattle.std.proofs.Common.{ap, sym, None}
 use Rattle.pn_stay.specs.Looks.{under}
 use Rattle.pn_stay.proofs.bounded_reader.looked_for.Goals as goal
 
-pub returns-in-Going : goal.returns-in-Going
-returns-in-Going c = (c.asked_line.result, c.asked_line.ensures, ap (under c.asked_line.result) (sym c.in-Going.is))
+pub returns-in-Pending : goal.returns-in-Pending
+returns-in-Pending c = (c.asked_line.result, c.asked_line.ensures, ap (under c.asked_line.result) (sym c.in-Pending.is))
 
 pub returns-in-Done : goal.returns-in-Done
 returns-in-Done c = (None, tt, ap (under None) (sym c.in-Done.is))

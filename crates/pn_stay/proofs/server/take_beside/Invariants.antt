@@ -1,7 +1,7 @@
 -- Readers are taken while there are more than threads.
 use Rattle.std.proofs.Common.{◌≤◌, vec_len}
 use Rattle.pn_live.specs.LiveRegions.{tablets_in}
-use Rattle.pn_serve.specs.Server.Sessions.{AllRead}
+use Rattle.pn_serve.specs.Server.Events.{AllRead}
 use Rattle.pn_stay.proofs.server.take_beside.Given as goal
 
 abbrev pub invariant-loop-readers : goal.invariant-loop-readers

@@ -2,7 +2,7 @@
 use Rattle.std.proofs.Common.{◌≡◌, ◌+◌, length, ap, ◌∙◌, rules, arith}
 use Rattle.std.proofs.lemmas.List.{length_push}
 use Rattle.pn_stream.proofs.ChunkLaws.{read_none, read_more, read_all, read_until}
-use Rattle.pn_stream.proofs.Runs.{handed_on}
+use Rattle.pn_stream.proofs.Runs.{passed_on}
 use Rattle.pn_stream.proofs.chunks.push_messages.Goals as goal
 
 pub loop-line-init : goal.loop-line-init
@@ -26,7 +26,7 @@ pub returns-in_err-push_message-clause-err : goal.returns-in_err-push_message-cl
 returns-in_err-push_message-clause-err c =
     let was = c.loop-line in
     let due : c.args.position + c.len.result + 1 ≡ c.args.position + length was.images.items + 1 = search (rules, arith) in
-    handed_on c.from_residual.result c.in_err-push_message.field-0.0 _ c.from_residual.ensures.1
+    passed_on c.from_residual.result c.in_err-push_message.field-0.0 _ c.from_residual.ensures.1
     (rw c.in_err-push_message.ensures.kept
     (read_until c.args.position c.args.lines.now was.images.items was.line-index (c.args.position + c.len.result + 1) c.line-item.result c.in_err-push_message.field-0.0
     c.loop-line-test.true c.line-item.is due was.invariant.in_step (rw c.bytes.ensures at c.in_err-push_message.ensures.err)))

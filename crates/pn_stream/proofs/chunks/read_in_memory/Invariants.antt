@@ -1,5 +1,5 @@
 -- What was read so far was read of the lines.
-use Rattle.pn_stream.specs.Lines.{IsRead}
+use Rattle.pn_stream.specs.Batches.{IsRead}
 use Rattle.pn_stream.proofs.chunks.read_in_memory.Given as goal
 
 abbrev pub invariant-loop : goal.invariant-loop

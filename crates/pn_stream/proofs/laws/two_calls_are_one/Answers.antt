@@ -1,4 +1,4 @@
-use Rattle.pn_stream.proofs.TwoCalls.{two_calls}
+use Rattle.pn_stream.proofs.Runs.{two_calls}
 use Rattle.pn_stream.proofs.laws.two_calls_are_one.Goals as goal
 
 pub returns : goal.returns

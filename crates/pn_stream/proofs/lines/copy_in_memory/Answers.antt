@@ -1,6 +1,6 @@
 -- Each attempt copies the same bytes.
 use Rattle.std.proofs.Common.{◌≡◌, rules, of_calls}
-use Rattle.pn_stream.proofs.Attempts.{makes_anew}
+use Rattle.pn_stream.proofs.Runs.{makes_anew}
 use Rattle.pn_stream.proofs.lines.copy_in_memory.Goals as goal
 
 pub returns-clause-copy : goal.returns-clause-copy

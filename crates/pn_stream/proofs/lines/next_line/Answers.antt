@@ -1,15 +1,15 @@
 -- Where the line's end was met, the line is the first of the text; and where not, none is.
 use Rattle.std.proofs.Common.{Ok, [], sym, ap, ◌∙◌}
-use Rattle.pn_line.specs.LineEnd.{ReadsTo}
+use Rattle.pn_line.specs.Line.{ReadsTo}
 use Rattle.pn_stream.specs.declared.fault.StreamFault.TheVariants.{Memory}
-use Rattle.pn_stream.proofs.Runs.{handed_on}
+use Rattle.pn_stream.proofs.Runs.{passed_on}
 use Rattle.pn_stream.proofs.Steps.{fault_stands, input_ended, newline_read, next_end, no_line, next_line, part-none, IsPart-more}
 use Rattle.pn_stream.proofs.Gathering.{at_any, line_taken, memory_at_any, whole_line}
 use Rattle.pn_stream.proofs.lines.next_line.Goals as goal
 
 pub returns-in_err-more-clause-stands : goal.returns-in_err-more-clause-stands
 returns-in_err-more-clause-stands g c =
-    handed_on c.from_residual.result c.in_err-more.field-0.0 _ c.from_residual.ensures.1
+    passed_on c.from_residual.result c.in_err-more.field-0.0 _ c.from_residual.ensures.1
     (at_any _ _ _ (λ wanted. fault_stands c.read_bounded_line.result c.in_err-more.field-0.0 wanted _ _ _ _ c.requires (sym c.in_err-more.ensures) c.read_bounded_line.ensures.takes))
 
 pub returns-in_default-clause-next : goal.returns-in_default-clause-next
@@ -24,7 +24,7 @@ returns-in_default-clause-part g c =
     IsPart-more _ _ _ _ [] c.requires reads.0 reads.2
 
 pub returns-in_err-copy-clause-stands : goal.returns-in_err-copy-clause-stands
-returns-in_err-copy-clause-stands g c = handed_on c.from_residual-in_err-copy.result Memory _ c.from_residual-in_err-copy.ensures.1 (memory_at_any c.args.line.now.bytes _)
+returns-in_err-copy-clause-stands g c = passed_on c.from_residual-in_err-copy.result Memory _ c.from_residual-in_err-copy.ensures.1 (memory_at_any c.args.line.now.bytes _)
 
 pub returns-clause-next : goal.returns-clause-next
 returns-clause-next g c =

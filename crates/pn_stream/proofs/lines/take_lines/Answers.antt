@@ -2,9 +2,9 @@
 use Rattle.std.proofs.Common.{◌≡◌, ◌+◌, ◌<◌, ◌≤◌, false, [], ◌∷◌, ◌++◌, length, refl, sym, ap, ◌∙◌, rules, arith}
 use Rattle.std.proofs.lemmas.List.{length_push}
 use Rattle.std.proofs.lemmas.List.Elements.{All-nil, All-push}
-use Rattle.pn_stream.specs.Lines.{IsWhole}
+use Rattle.pn_stream.specs.Batches.{IsWhole}
 use Rattle.pn_stream.specs.declared.fault.StreamFault.TheVariants.{Memory}
-use Rattle.pn_stream.proofs.Runs.{handed_on, shown_none}
+use Rattle.pn_stream.proofs.Runs.{passed_on, shown_none}
 use Rattle.pn_stream.proofs.Gathering.{lines_none, lines_more, seen_on, gathered_end, gathered_enough, gathered_fault, gathered_memory}
 use Rattle.pn_stream.proofs.lines.take_lines.Goals as goal
 
@@ -12,7 +12,7 @@ pub returns-in_err-line-clause-err : goal.returns-in_err-line-clause-err
 returns-in_err-line-clause-err g c =
     let none : length c.args.lines.now.items ≡ 0 = ap length c.requires.none in
     let few : length c.args.lines.now.items < c.args.size.most = omega (arith, none, c.requires.some, c.requires.few) in
-    handed_on c.from_residual.result c.in_err-line.field-0.0 _ c.from_residual.ensures.1
+    passed_on c.from_residual.result c.in_err-line.field-0.0 _ c.from_residual.ensures.1
     (rw c.in_err-line.ensures.memory (gathered_memory _ _ _ _ _ _ _ _ _ few (lines_none _ _ _ c.requires.none)))
 
 pub lines-init : goal.lines-init
@@ -31,7 +31,7 @@ lines-init g c =
 pub returns-in_err-next-clause-err : goal.returns-in_err-next-clause-err
 returns-in_err-next-clause-err g c =
     let few : length c.lines.lines.items < c.args.size.most = search (rules, arith) in
-    rw (sym c.in_ok-line.ensures.front) (handed_on c.from_residual-in_err-next.result c.in_err-next.field-0.0 _ c.from_residual-in_err-next.ensures.1 (gathered_fault _ _ _ _ _ _ _ _ _ _ few c.lines.invariant.so_far c.in_err-next.ensures.stands))
+    rw (sym c.in_ok-line.ensures.front) (passed_on c.from_residual-in_err-next.result c.in_err-next.field-0.0 _ c.from_residual-in_err-next.ensures.1 (gathered_fault _ _ _ _ _ _ _ _ _ _ few c.lines.invariant.so_far c.in_err-next.ensures.stands))
 
 pub lines-preserved : goal.lines-preserved
 lines-preserved g c =
@@ -52,7 +52,7 @@ pub returns-in_err-push_one-in-Some-clause-err : goal.returns-in_err-push_one-in
 returns-in_err-push_one-in-Some-clause-err g c =
     let few : length c.lines.lines.items < c.args.size.most = search (rules, arith) in
     let same : c.push_one.new.list.items ≡ c.lines.lines.items = search rules in
-    rw (sym c.in_ok-line.ensures.front) (handed_on c.from_residual-in_err-push_one-in-Some.result Memory _ c.from_residual-in_err-push_one-in-Some.ensures.1 (rw same (gathered_memory _ _ _ _ _ _ _ _ _ few c.lines.invariant.so_far)))
+    rw (sym c.in_ok-line.ensures.front) (passed_on c.from_residual-in_err-push_one-in-Some.result Memory _ c.from_residual-in_err-push_one-in-Some.ensures.1 (rw same (gathered_memory _ _ _ _ _ _ _ _ _ few c.lines.invariant.so_far)))
 
 pub returns-in-None-clause-ok : goal.returns-in-None-clause-ok
 returns-in-None-clause-ok g c =

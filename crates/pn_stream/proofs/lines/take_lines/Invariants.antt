@@ -1,8 +1,7 @@
 -- The lines so far were taken from the text; the line holds what was read of the next one, which is nothing after a line.
 use Rattle.std.proofs.Common.{◌≡◌, ◌-◌, ◌≤◌, [], None, ◌++◌, length, All, IfSome, OnSome}
-use Rattle.pn_line.specs.Reads.{HasShown}
-use Rattle.pn_stream.specs.Batches.{IsPart}
-use Rattle.pn_stream.specs.Lines.{IsWhole, LinesSoFar}
+use Rattle.pn_line.specs.Line.{HasShown}
+use Rattle.pn_stream.specs.Batches.{IsPart, IsWhole, LinesSoFar}
 use Rattle.pn_stream.proofs.lines.take_lines.Given as goal
 
 abbrev pub invariant-lines : goal.invariant-lines

@@ -1,6 +1,6 @@
 -- Memory ran out for one attempt more.
 use Rattle.std.proofs.Common.{of_calls}
-use Rattle.pn_stream.proofs.Attempts.{one_more}
+use Rattle.pn_stream.proofs.Runs.{one_more}
 use Rattle.pn_stream.proofs.memory.make_in_memory.Goals as goal
 
 pub returns-then-not-wait-clause-failed : goal.returns-then-not-wait-clause-failed

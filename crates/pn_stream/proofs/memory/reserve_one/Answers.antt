@@ -1,6 +1,6 @@
 -- The list is the same one through all attempts and keeps what it has.
 use Rattle.std.proofs.Common.{◌≡◌, refl, rules, of_calls}
-use Rattle.pn_stream.proofs.Attempts.{attempts_keep}
+use Rattle.pn_stream.proofs.Runs.{attempts_keep}
 use Rattle.pn_stream.proofs.memory.reserve_one.Goals as goal
 
 pub returns-clause-room : goal.returns-clause-room

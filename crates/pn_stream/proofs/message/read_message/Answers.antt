@@ -1,8 +1,7 @@
 -- The message of the value that was read is that of the line.
-use Rattle.pn_json.proofs.Inverses.{right_same}
-use Rattle.pn_record.proofs.Lines.{found_in_line, right_of_line, long_by_reading}
-use Rattle.pn_stream.specs.MessageLines.{IsMessage}
-use Rattle.pn_stream.specs.Messages.{message_in, message_at}
+use Rattle.pn_json.proofs.LookUps.{right_same}
+use Rattle.pn_record.proofs.ImageLines.{found_in_line, right_of_line, long_by_reading}
+use Rattle.pn_stream.specs.Messages.{IsMessage, message_in, message_at}
 use Rattle.pn_stream.proofs.SameMessage.{message_line_again}
 use Rattle.pn_stream.proofs.message.read_message.Goals as goal
 

@@ -1,8 +1,8 @@
 -- Each attempt reads the same line.
 use Rattle.std.proofs.Common.{Ok, IfOk, IfErr, rules, of_calls}
-use Rattle.pn_stream.specs.Faults.{Refuses}
-use Rattle.pn_stream.specs.MessageLines.{IsMessageLine}
-use Rattle.pn_stream.proofs.Attempts.{makes_anew}
+use Rattle.pn_stream.specs.Streams.{Refuses}
+use Rattle.pn_stream.specs.Messages.{IsMessageLine}
+use Rattle.pn_stream.proofs.Runs.{makes_anew}
 use Rattle.pn_stream.proofs.next.message_in_memory.Goals as goal
 
 pub returns-clause-ok : goal.returns-clause-ok

@@ -1,8 +1,7 @@
 -- The message that was read is that of the line, and why another line was refused.
 use Rattle.std.proofs.Common.{IfOk, IfErr, Result, sym, subst}
-use Rattle.pn_stream.specs.Faults.{Refuses}
-use Rattle.pn_stream.specs.Messages.{Message}
-use Rattle.pn_stream.specs.MessageLines.{IsMessageLine}
+use Rattle.pn_stream.specs.Streams.{Refuses}
+use Rattle.pn_stream.specs.Messages.{Message, IsMessageLine}
 use Rattle.pn_stream.specs.declared.fault.StreamFault.{StreamFault}
 use Rattle.pn_stream.proofs.Steps.{AnyStep, line_found, line_refused, line_any_step}
 use Rattle.pn_stream.proofs.next.message_of_line.Goals as goal

@@ -1,6 +1,6 @@
 -- The images so far are a run; the line holds what was read of the next one, which is nothing after an image.
 use Rattle.std.proofs.Common.{◌≡◌, ◌-◌, ◌+◌, ◌≤◌, ◌^◌, [], None, ◌++◌, length, IfSome, OnSome}
-use Rattle.pn_line.specs.Reads.{HasShown}
+use Rattle.pn_line.specs.Line.{HasShown}
 use Rattle.pn_stream.specs.Batches.{SoFar, IsPart}
 use Rattle.pn_stream.proofs.next.next_images.Given as goal
 

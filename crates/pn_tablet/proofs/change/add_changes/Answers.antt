@@ -2,7 +2,7 @@
 use Rattle.std.proofs.Common.{◌≡◌, List, [], ◌∷◌, ◌++◌, length, map, sym, ap, ◌∙◌, append-nil, append_assoc, arith, rules}
 use Rattle.std.specs.Vec.Iter.{into_iter_items, into_iter_len}
 use Rattle.pn_join.proofs.PutTogether.{none_left}
-use Rattle.pn_tablet.specs.Changes.{reported_change}
+use Rattle.pn_tablet.specs.Steps.{reported_change}
 use Rattle.pn_tablet.specs.declared.change.Change.{Change}
 use Rattle.pn_tablet.proofs.change.add_changes.Goals as goal
 
@@ -11,8 +11,8 @@ loop-change-init c =
     let given = c.into_iter-change-iterator.ensures.into_iter_gives in
     record {
       whole = ap (λ (xs : List Change). xs ++ map reported_change (into_iter_items c.into_iter-change-iterator.result)) c.requires.none;
-      capacity = omega (arith, given.1, c.args.told.ok.0, c.requires.capacity, ap length c.requires.none, c.args.changes.now.ok.0);
-      len = omega (arith, given.1, ap length given.0, c.args.told.ok.0);
+      capacity = omega (arith, given.1, c.args.table_changes.ok.0, c.requires.capacity, ap length c.requires.none, c.args.changes.now.ok.0);
+      len = omega (arith, given.1, ap length given.0, c.args.table_changes.ok.0);
     }
 
 pub push_reserved-requires : goal.push_reserved-requires

@@ -1,7 +1,7 @@
 -- The changes so far and those that are left are all changes.
 use Rattle.std.proofs.Common.{◌≡◌, ◌+◌, ◌≤◌, ◌++◌, length, map, vec_len, vec_capacity}
 use Rattle.std.specs.Vec.Iter.{into_iter_items, into_iter_len}
-use Rattle.pn_tablet.specs.Changes.{reported_change}
+use Rattle.pn_tablet.specs.Steps.{reported_change}
 use Rattle.pn_tablet.proofs.change.add_changes.Given as goal
 
 abbrev pub invariant-loop-change : goal.invariant-loop-change

@@ -2,10 +2,9 @@
 use Rattle.std.proofs.Common.{◌≡◌, ◌∷◌, All, length, sym, ap, ◌∙◌, subst, arith}
 use Rattle.std.specs.Vec.Iter.{into_iter_items}
 use Rattle.std.proofs.lemmas.List.Elements.{All-head, All-tail}
-use Rattle.pn_tablet.specs.CopyChunks.{IsMarkOrImage}
-use Rattle.pn_tablet.specs.CopyReading.{with_lines}
+use Rattle.pn_tablet.specs.CopyReading.{IsMarkOrImage, with_lines}
 use Rattle.pn_tablet.proofs.CopyChunkLaws.{none_left, with_lines-nil, with_lines-ok, with_lines-err}
-use Rattle.pn_tablet.proofs.CopySteps.{handed_on, refused_right}
+use Rattle.pn_tablet.proofs.CopySteps.{passed_on, refused_right}
 use Rattle.pn_tablet.proofs.copy_chunks.add_lines.Goals as goal
 
 pub add_line-requires : goal.add_line-requires
@@ -28,7 +27,7 @@ returns-in_err-draft c =
     let at = c.loop-line in
     let left = into_iter_items c.next.new.self in
     let steps : into_iter_items at.line-iterator ≡ c.in-Some.line ∷ left = c.in-Some.ensures.steps.0 in
-    handed_on c.from_residual.result _ c.in_err-draft.field-0.0 c.from_residual.ensures.1 (λ other.
+    passed_on c.from_residual.result _ c.in_err-draft.field-0.0 c.from_residual.ensures.1 (λ other.
     at.invariant.adds ∙ ap (with_lines at.number at.draft) steps
     ∙ with_lines-err at.number at.draft c.in-Some.line left c.in_err-draft.field-0.0 (refused_right c.in_err-draft.field-0.0 _ c.in_err-draft.ensures other))
 

@@ -1,8 +1,7 @@
 -- What was added, with the lines that are left, is what all lines come to.
 use Rattle.std.proofs.Common.{◌≡◌, ◌+◌, length, All}
 use Rattle.std.specs.Vec.Iter.{into_iter_items, into_iter_len}
-use Rattle.pn_tablet.specs.CopyChunks.{IsMarkOrImage}
-use Rattle.pn_tablet.specs.CopyReading.{with_lines}
+use Rattle.pn_tablet.specs.CopyReading.{IsMarkOrImage, with_lines}
 use Rattle.pn_tablet.proofs.copy_chunks.add_lines.Given as goal
 
 abbrev pub invariant-loop-line : goal.invariant-loop-line

@@ -2,12 +2,12 @@
 use Rattle.std.proofs.Common.{◌+◌, rules, sym, arith}
 use Rattle.pn_tablet.specs.CopyReading.{pieces_of, read_on}
 use Rattle.pn_tablet.proofs.CopyChunkLaws.{taken_then, refused_then}
-use Rattle.pn_tablet.proofs.CopySteps.{handed_on, same_right}
+use Rattle.pn_tablet.proofs.CopySteps.{passed_on, same_right}
 use Rattle.pn_tablet.proofs.copy_chunks.read_after.Goals as goal
 
 pub returns-in_err-draft : goal.returns-in_err-draft
 returns-in_err-draft c =
-    handed_on c.from_residual.result _ c.in_err-draft.field-0.0 c.from_residual.ensures.1 (λ other.
+    passed_on c.from_residual.result _ c.in_err-draft.field-0.0 c.from_residual.ensures.1 (λ other.
     refused_then c.args.form c.args.text.now c.args.first.says.items _ c.requires.begins c.args.empty c.in_err-draft.field-0.0 (c.in_err-draft.ensures other))
 
 pub returns : goal.returns

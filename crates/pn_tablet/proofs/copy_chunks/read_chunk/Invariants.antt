@@ -1,6 +1,6 @@
 -- The lines so far begin the text, and the rest of it is left.
 use Rattle.std.proofs.Common.{◌≤◌, length}
-use Rattle.pn_tablet.specs.CopyChunks.{BeginsWith}
+use Rattle.pn_tablet.specs.CopyReading.{BeginsWith}
 use Rattle.pn_tablet.proofs.copy_chunks.read_chunk.Given as goal
 
 abbrev pub invariant-lines : goal.invariant-lines

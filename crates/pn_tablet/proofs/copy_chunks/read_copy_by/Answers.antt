@@ -1,7 +1,7 @@
 -- What was read is the copy that the text spells.
-use Rattle.pn_json.proofs.Inverses.{right_same}
+use Rattle.pn_json.proofs.LookUps.{right_same}
 use Rattle.pn_tablet.proofs.CopyTextFacts.{text_again, answer_found}
-use Rattle.pn_tablet.proofs.CopyPieces.{pieces_of-last}
+use Rattle.pn_tablet.proofs.CopySteps.{pieces_of-last}
 use Rattle.pn_tablet.proofs.copy_chunks.read_copy_by.Goals as goal
 
 pub returns-clause-found : goal.returns-clause-found

@@ -1,7 +1,6 @@
 -- The line says a mark or an image.
 use Rattle.std.proofs.Common.{◌≡◌, Ok, false, rules}
-use Rattle.pn_tablet.specs.CopyChunks.{says_end}
-use Rattle.pn_tablet.specs.CopyLineReading.{line_at}
+use Rattle.pn_tablet.specs.CopyReading.{says_end, line_at}
 use Rattle.pn_tablet.specs.declared.fault.CopyTextFault.TheVariants.{Truncated}
 use Rattle.pn_tablet.proofs.CopyChunkLaws.{line_said}
 use Rattle.pn_tablet.proofs.copy_chunks.read_mark_or_image.Goals as goal

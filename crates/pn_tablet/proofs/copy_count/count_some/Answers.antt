@@ -1,7 +1,7 @@
 -- One record more is counted.
 use Rattle.std.proofs.Common.{rules, ◌≡◌, ℕ, ◌-◌, ◌∷◌, List, [], drop, length, sym, ap, ◌∙◌, arith, length-drop}
 use Rattle.std.proofs.lemmas.Result.{err_from_is_err_and}
-use Rattle.pn_record.specs.CellMap.{Entries}
+use Rattle.pn_record.specs.Cells.{Entries}
 use Rattle.pn_record.specs.Sets.{CellValue}
 use Rattle.pn_tablet.proofs.CopyCounted.{counted_more, counted_within, one_more_record}
 use Rattle.pn_tablet.proofs.copy_count.count_some.Goals as goal

@@ -1,7 +1,7 @@
 -- All are counted, and the text begins.
 use Rattle.std.proofs.Common.{arith, ◌≤◌, length, ap}
 use Rattle.pn_tablet.specs.Copies.{TabletCopyValue}
-use Rattle.pn_tablet.specs.CopyMaking.{CopyTextValue}
+use Rattle.pn_tablet.specs.CopyWriting.{CopyTextValue}
 use Rattle.pn_tablet.proofs.CopyCounted.{counted_all}
 use Rattle.pn_tablet.proofs.copy_count.step_of.Goals as goal
 

@@ -2,7 +2,7 @@
 use Rattle.std.proofs.Common.{eqb, ◌∙◌}
 use Rattle.std.specs.Ordering.{is_lt}
 use Rattle.pn_join.specs.Marks.{name_cmp}
-use Rattle.pn_tablet.proofs.Counts.{all_counted}
+use Rattle.pn_tablet.proofs.Within.{all_counted}
 use Rattle.pn_tablet.proofs.copy_draft.is_after_all.Goals as goal
 
 pub returns : goal.returns

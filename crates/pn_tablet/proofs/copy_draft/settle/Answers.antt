@@ -1,8 +1,8 @@
 -- The last image is added to the cells.
 use Rattle.std.proofs.Common.{OnOk, ◌≡◌, sym, subst, Option}
-use Rattle.pn_record.specs.declared.image.Image.{Image}
-use Rattle.pn_tablet.specs.Drafts.{with_last}
-use Rattle.pn_tablet.proofs.Drafting.{taken}
+use Rattle.pn_record.specs.declared.records.Image.{Image}
+use Rattle.pn_tablet.specs.Copies.{with_last}
+use Rattle.pn_tablet.proofs.Keeping.{taken}
 use Rattle.pn_tablet.proofs.copy_draft.settle.Goals as goal
 
 pub returns-in-Some : goal.returns-in-Some

@@ -1,5 +1,5 @@
 -- The two members between braces.
-use Rattle.pn_json.proofs.TokenLists.{appends_token, appends_both}
+use Rattle.pn_json.proofs.AppendedTexts.{appends_token, appends_both}
 use Rattle.pn_tablet.proofs.copy_line_writing.put_mark.Goals as goal
 
 pub returns : goal.returns

@@ -1,7 +1,7 @@
 -- The line of an end.
 use Rattle.std.proofs.Common.{arith, ◌<◌, ◌^◌}
 use Rattle.std.proofs.lemmas.Result.{IfOk-weaker}
-use Rattle.pn_tablet.specs.CopyLines.{end_data}
+use Rattle.pn_tablet.specs.CopyTexts.{end_data}
 use Rattle.pn_tablet.proofs.CopyWritten.{line_from, end_written}
 use Rattle.pn_tablet.proofs.copy_line_writing.write_end.Goals as goal
 

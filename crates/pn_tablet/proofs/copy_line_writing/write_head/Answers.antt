@@ -1,6 +1,6 @@
 -- The line of a head.
 use Rattle.std.proofs.lemmas.Result.{IfOk-weaker}
-use Rattle.pn_tablet.specs.CopyLines.{head_data}
+use Rattle.pn_tablet.specs.CopyTexts.{head_data}
 use Rattle.pn_tablet.proofs.CopyWritten.{line_from, head_written}
 use Rattle.pn_tablet.proofs.copy_line_writing.write_head.Goals as goal
 

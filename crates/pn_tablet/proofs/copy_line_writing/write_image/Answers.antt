@@ -1,6 +1,6 @@
 -- The line of an image.
 use Rattle.std.proofs.lemmas.Result.{IfOk-weaker}
-use Rattle.pn_record.specs.declared.image.Image.{Image}
+use Rattle.pn_record.specs.declared.records.Image.{Image}
 use Rattle.pn_record.specs.Writing.{image_data}
 use Rattle.pn_tablet.proofs.CopyWritten.{line_from, image_written}
 use Rattle.pn_tablet.proofs.copy_line_writing.write_image.Goals as goal

@@ -1,6 +1,6 @@
 -- A text is cut at its first newline.
 use Rattle.std.proofs.Common.{◌+◌}
-use Rattle.pn_tablet.proofs.CopyPieces.{pieces-cut, pieces-none, rest_whole, rest_shorter}
+use Rattle.pn_tablet.proofs.CopySteps.{pieces-cut, pieces-none, rest_whole, rest_shorter}
 use Rattle.pn_tablet.proofs.copy_reading.cut_line.Goals as goal
 
 pub returns-in-None : goal.returns-in-None

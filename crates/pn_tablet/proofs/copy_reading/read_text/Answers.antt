@@ -1,14 +1,13 @@
 -- The head comes first, and then the lines after it.
 use Rattle.std.proofs.Common.{sym, ap, ◌∙◌}
 use Rattle.pn_tablet.specs.CopyReading.{pieces_of, read_on}
-use Rattle.pn_tablet.specs.Drafts.{DraftValue}
-use Rattle.pn_tablet.proofs.CopyPieces.{two_pieces}
-use Rattle.pn_tablet.proofs.CopySteps.{copy_at-bad, copy_at-empty_draft, handed_on, same_right}
+use Rattle.pn_tablet.specs.Copies.{DraftValue}
+use Rattle.pn_tablet.proofs.CopySteps.{two_pieces, copy_at-bad, copy_at-empty_draft, passed_on, same_right}
 use Rattle.pn_tablet.proofs.copy_reading.read_text.Goals as goal
 
 pub returns-in_err-form-clause-exact : goal.returns-in_err-form-clause-exact
 returns-in_err-form-clause-exact c =
-    handed_on c.from_residual.result _ c.in_err-form.field-0.0 c.from_residual.ensures.1 (λ other.
+    passed_on c.from_residual.result _ c.in_err-form.field-0.0 c.from_residual.ensures.1 (λ other.
     copy_at-bad c.args.text.now c.in-Some.head.now c.in-Some.rest.now c.in-Some.ensures.0 c.in_err-form.field-0.0 (c.in_err-form.ensures other))
 
 pub returns-clause-exact : goal.returns-clause-exact

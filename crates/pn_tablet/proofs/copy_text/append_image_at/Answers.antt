@@ -3,15 +3,14 @@ use Rattle.std.proofs.Common.{rules, ◌≡◌, ℕ, ◌+◌, ◌^◌, ◌<◌, 
 use Rattle.std.proofs.lemmas.Option.{slice_get_within}
 use Rattle.std.specs.FinMap.{keys}
 use Rattle.std.specs.List.{slice_get}
-use Rattle.pn_json.specs.AppendedText.{AppendsText}
+use Rattle.pn_json.specs.Tokens.{AppendsText}
 use Rattle.pn_record.specs.Limits.{ContentValue}
 use Rattle.pn_record.specs.Sets.{CellValue}
 use Rattle.pn_record.specs.Writing.{image_data}
 use Rattle.pn_tablet.specs.Copies.{TabletCopyValue}
-use Rattle.pn_tablet.specs.CopyMaking.{IsCopyCursor, MakesLine, lines_of_copy}
-use Rattle.pn_tablet.specs.CopyWriting.{line_text}
+use Rattle.pn_tablet.specs.CopyWriting.{IsCopyCursor, MakesLine, lines_of_copy, line_text}
 use Rattle.pn_tablet.specs.declared.copy_text.CopyCursor.TheVariants.{Image, Written}
-use Rattle.pn_tablet.specs.declared.copy_line_appending.TheConstants.{MAX_COPY_LINE_BYTES}
+use Rattle.pn_tablet.specs.declared.copy_line_writing.TheConstants.{MAX_COPY_LINE_BYTES}
 use Rattle.pn_tablet.proofs.CopyCounted.{copy_lines}
 use Rattle.pn_tablet.proofs.CopyMade.{at_some, end_next, image_next}
 use Rattle.pn_tablet.proofs.copy_text.append_image_at.Goals as goal

@@ -3,7 +3,7 @@ use Rattle.std.proofs.Common.{rules, ◌≡◌, ℕ, ◌+◌, ◌^◌, ◌<◌, 
 use Rattle.std.proofs.lemmas.Option.{slice_get_within}
 use Rattle.std.specs.List.{slice_get}
 use Rattle.pn_tablet.specs.Copies.{TabletCopyValue}
-use Rattle.pn_tablet.specs.CopyMaking.{IsCopyCursor, MakesLine}
+use Rattle.pn_tablet.specs.CopyWriting.{IsCopyCursor, MakesLine}
 use Rattle.pn_tablet.specs.declared.copy_text.CopyCursor.TheVariants.{Image, Mark}
 use Rattle.pn_tablet.proofs.CopyMade.{first_content, mark_next, no_mark, same_line}
 use Rattle.pn_tablet.proofs.copy_text.append_mark_at.Goals as goal

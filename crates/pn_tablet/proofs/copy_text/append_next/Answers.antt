@@ -2,9 +2,8 @@
 use Rattle.std.proofs.Common.{◌≡◌, sym, ap, ◌∙◌, subst}
 use Rattle.pn_record.specs.Cells.{spell}
 use Rattle.pn_tablet.specs.Copies.{TabletCopyValue}
-use Rattle.pn_tablet.specs.CopyLines.{head_data}
-use Rattle.pn_tablet.specs.CopyMaking.{IsCopyCursor, MakesLine}
-use Rattle.pn_tablet.specs.Forms.{form_of}
+use Rattle.pn_tablet.specs.CopyTexts.{head_data, form_of}
+use Rattle.pn_tablet.specs.CopyWriting.{IsCopyCursor, MakesLine}
 use Rattle.pn_tablet.specs.declared.copy_text.CopyCursor.{CopyCursor}
 use Rattle.pn_tablet.specs.declared.copy_text.CopyCursor.TheVariants.{Head, Mark, Written}
 use Rattle.pn_tablet.proofs.CopyMade.{head_rest, made_line, none_left}

@@ -1,6 +1,6 @@
 -- The deleted cells so far, and those that are left, are all deleted cells.
 use Rattle.std.proofs.Common.{◌≡◌, ◌+◌}
-use Rattle.pn_tablet.specs.Counting.{deleted_in}
+use Rattle.pn_tablet.specs.Tablets.{deleted_in}
 use Rattle.pn_tablet.proofs.counted_cells.count_deleted.Given as goal
 
 abbrev pub invariant-loop-key : goal.invariant-loop-key

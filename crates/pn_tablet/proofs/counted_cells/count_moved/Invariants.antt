@@ -5,8 +5,8 @@ use Rattle.pn_tablet.proofs.counted_cells.count_moved.Given as goal
 
 abbrev pub invariant-loop-change : goal.invariant-loop-change
 invariant-loop-change l = record {
-  all_come : l.come + come (drop l.change-index l.told) ≡ come l.told;
-  all_gone : l.gone + gone (drop l.change-index l.told) ≡ gone l.told;
+  all_come : l.come + come (drop l.change-index l.table_changes) ≡ come l.table_changes;
+  all_gone : l.gone + gone (drop l.change-index l.table_changes) ≡ gone l.table_changes;
   few_come : l.come ≤ l.change-index;
   few_gone : l.gone ≤ l.change-index;
 }

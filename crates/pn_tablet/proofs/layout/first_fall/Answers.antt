@@ -1,7 +1,7 @@
 -- Each bound is compared with the one before it.
 use Rattle.std.proofs.Common.{◌≡◌, ◌+◌, ◌-◌, ◌<◌, ◌≤◌, true, false, suc, length, get_or, Some, sym, ap, ◌∙◌, arith}
-use Rattle.pn_tablet.specs.Ranges.{is_below}
-use Rattle.pn_tablet.proofs.BoundSteps.{fall_from, fall_from-zero, falls_here, rises_here, no_fall_after, not_less, is_less_from}
+use Rattle.pn_tablet.specs.Layouts.{is_below}
+use Rattle.pn_tablet.proofs.LayoutFacts.{fall_from, fall_from-zero, falls_here, rises_here, no_fall_after, not_less, is_less_from}
 use Rattle.pn_tablet.proofs.layout.first_fall.Goals as goal
 
 pub loop-index-init : goal.loop-index-init

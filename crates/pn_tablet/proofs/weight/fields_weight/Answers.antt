@@ -1,8 +1,8 @@
 -- One field more is weighed.
 use Rattle.std.proofs.Common.{◌≡◌, ◌-◌, ◌^◌, min, ap, ◌∙◌, arith}
 use Rattle.pn_record.specs.Showing.{shown_field}
-use Rattle.pn_tablet.specs.Weights.{field_weight}
-use Rattle.pn_tablet.proofs.Weighed.{weight_all, weight_more}
+use Rattle.pn_tablet.specs.Tablets.{field_weight}
+use Rattle.pn_tablet.proofs.Counting.{weight_all, weight_more}
 use Rattle.pn_tablet.proofs.weight.fields_weight.Goals as goal
 
 pub loop-field-preserved : goal.loop-field-preserved

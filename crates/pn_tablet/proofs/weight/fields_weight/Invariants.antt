@@ -2,7 +2,7 @@
 use Rattle.std.proofs.Common.{◌≡◌, ◌-◌, ◌^◌, map, take, min}
 use Rattle.std.specs.List.{sum_by}
 use Rattle.pn_record.specs.Showing.{shown_field}
-use Rattle.pn_tablet.specs.Weights.{field_weight}
+use Rattle.pn_tablet.specs.Tablets.{field_weight}
 use Rattle.pn_tablet.proofs.weight.fields_weight.Given as goal
 
 abbrev pub invariant-loop-field : goal.invariant-loop-field

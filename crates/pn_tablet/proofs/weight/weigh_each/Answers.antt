@@ -1,7 +1,7 @@
 -- One content more is weighed.
 use Rattle.std.proofs.Common.{◌≡◌, ◌-◌, ◌^◌, min, ap, ◌∙◌, arith}
-use Rattle.pn_tablet.specs.Weights.{content_weight}
-use Rattle.pn_tablet.proofs.Weighed.{own_all, own_more}
+use Rattle.pn_tablet.specs.Tablets.{content_weight}
+use Rattle.pn_tablet.proofs.Counting.{own_all, own_more}
 use Rattle.pn_tablet.proofs.weight.weigh_each.Goals as goal
 
 pub loop-content-preserved : goal.loop-content-preserved

@@ -1,7 +1,7 @@
 -- The weight of the contents so far.
 use Rattle.std.proofs.Common.{◌≡◌, ◌-◌, ◌^◌, take, min}
 use Rattle.std.specs.List.{sum_by}
-use Rattle.pn_tablet.specs.Weights.{content_weight}
+use Rattle.pn_tablet.specs.Tablets.{content_weight}
 use Rattle.pn_tablet.proofs.weight.weigh_each.Given as goal
 
 abbrev pub invariant-loop-content : goal.invariant-loop-content

@@ -1,4 +1,4 @@
--- Where memory has run out nothing is told.
+-- Where memory has run out nothing is reported.
 use Rattle.std.proofs.Common.{inl, refl}
 use Rattle.pn_check.proofs.checker.Checker.check.Goals as goal
 

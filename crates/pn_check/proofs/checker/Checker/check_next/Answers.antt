@@ -1,5 +1,5 @@
 -- A last part without a byte is no line, and all else is one.
-use Rattle.pn_check.proofs.CheckedOnce.{next_line, no_line}
+use Rattle.pn_check.proofs.CheckedLines.{next_line, no_line}
 use Rattle.pn_check.proofs.checker.Checker.check_next.Goals as goal
 
 pub returns-then-is_no_line : goal.returns-then-is_no_line

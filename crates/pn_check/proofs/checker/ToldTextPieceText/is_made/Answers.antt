@@ -1,6 +1,6 @@
 -- Nothing is left after the last byte.
 use Rattle.std.proofs.Common.{◌≡◌, length, arith}
-use Rattle.pn_check.proofs.Pieces.{all_made}
+use Rattle.pn_check.proofs.ToldLines.{all_made}
 use Rattle.pn_check.proofs.checker.ToldTextPieceText.is_made.Goals as goal
 
 pub returns : goal.returns

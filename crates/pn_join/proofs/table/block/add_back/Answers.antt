@@ -1,6 +1,6 @@
 use Rattle.std.proofs.Common.{suc, ◌≡◌, ◌+◌, ◌<◌, length, insert, ap, ◌∙◌, arith, rules}
-use Rattle.pn_join.specs.LeafEntries.{leaves_of}
-use Rattle.pn_join.proofs.LeafListGrowth.{leaves_of-insert, with_some_back}
+use Rattle.pn_join.specs.Leaves.{leaves_of}
+use Rattle.pn_join.proofs.SliceFacts.{leaves_of-insert, with_some_back}
 use Rattle.pn_join.proofs.table.block.add_back.Goals as goal
 
 pub returns-then-not-is_empty : goal.returns-then-not-is_empty

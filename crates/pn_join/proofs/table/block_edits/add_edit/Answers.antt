@@ -1,6 +1,6 @@
 -- The last block's edits get one more.
 use Rattle.std.proofs.Common.{◌≡◌, ◌+◌, ◌-◌, ◌<◌, ◌++◌, ◌∷◌, [], length, refl, ap, ◌∙◌, sym, arith, rules}
-use Rattle.pn_join.specs.BlockEdits.{placed}
+use Rattle.pn_join.specs.Edits.{placed}
 use Rattle.pn_join.proofs.BlockChanging.{placed_set}
 use Rattle.pn_join.proofs.LeafListFacts.{same_at}
 use Rattle.pn_join.proofs.table.block_edits.add_edit.Goals as goal

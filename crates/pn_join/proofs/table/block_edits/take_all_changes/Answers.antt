@@ -1,6 +1,6 @@
 -- The changes of one more block are taken, and its edits put the same.
 use Rattle.std.proofs.Common.{◌≡◌, ◌<◌, ◌++◌, length, get_or, take, refl, sym, ap, ◌∙◌, arith}
-use Rattle.pn_join.specs.BlockEdits.{changes_in_blocks}
+use Rattle.pn_join.specs.Edits.{changes_in_blocks}
 use Rattle.pn_join.proofs.BlockChanging.{changes_taken, puts_replaced}
 use Rattle.pn_join.proofs.EditSteps.{above_set}
 use Rattle.pn_join.proofs.table.block_edits.take_all_changes.Goals as goal

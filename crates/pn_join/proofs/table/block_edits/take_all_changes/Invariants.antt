@@ -1,5 +1,5 @@
 use Rattle.std.proofs.Common.{◌≡◌, ◌≤◌, ℕ, get_or, take, vec_len}
-use Rattle.pn_join.specs.BlockEdits.{changes_in_blocks, puts_in_blocks}
+use Rattle.pn_join.specs.Edits.{changes_in_blocks, puts_in_blocks}
 use Rattle.pn_join.specs.declared.table.block_edits.BlockEdits.{BlockEdits}
 use Rattle.pn_join.proofs.table.block_edits.take_all_changes.Given as goal
 

@@ -1,7 +1,7 @@
 use Rattle.std.proofs.Common.{◌<◌, [], length, ap, ◌∙◌, arith}
-use Rattle.pn_join.specs.LeafEntries.{leaf_entries}
-use Rattle.pn_join.proofs.Partitions.{get_or-leaves}
-use Rattle.pn_join.proofs.LeafListGrowth.{same_leaves}
+use Rattle.pn_join.specs.Leaves.{leaf_entries}
+use Rattle.pn_join.proofs.Rising.{get_or-leaves}
+use Rattle.pn_join.proofs.SliceFacts.{same_leaves}
 use Rattle.pn_join.proofs.table.edit.close_leaf.Goals as goal
 
 pub returns-then-index-len : goal.returns-then-index-len

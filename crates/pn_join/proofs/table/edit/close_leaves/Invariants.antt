@@ -1,5 +1,5 @@
 use Rattle.std.proofs.Common.{◌≡◌}
-use Rattle.pn_join.specs.LeafEntries.{leaves_of}
+use Rattle.pn_join.specs.Leaves.{leaves_of}
 use Rattle.pn_join.proofs.table.edit.close_leaves.Given as goal
 
 abbrev pub invariant-loop-index : goal.invariant-loop-index

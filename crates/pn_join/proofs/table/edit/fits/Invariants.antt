@@ -1,7 +1,7 @@
 use Rattle.std.proofs.Common.{◌≤◌, ◌<◌, length, take}
 use Rattle.std.specs.List.{AllByRecursion}
 use Rattle.pn_join.specs.Edits.{put_all}
-use Rattle.pn_join.specs.LeafEntries.{leaves_of}
+use Rattle.pn_join.specs.Leaves.{leaves_of}
 use Rattle.pn_join.specs.declared.table.leaf_join.TheConstants.{MAX_LEAF_ENTRIES}
 use Rattle.pn_join.proofs.EditSteps.{FitsSoFar, UpTo}
 use Rattle.pn_join.proofs.table.edit.fits.Given as goal

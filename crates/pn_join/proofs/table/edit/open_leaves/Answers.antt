@@ -1,5 +1,5 @@
 use Rattle.std.proofs.Common.{◌<◌, length, arith, ◌∙◌}
-use Rattle.pn_join.specs.LeafEntries.{leaves_of}
+use Rattle.pn_join.specs.Leaves.{leaves_of}
 use Rattle.pn_join.proofs.EditSteps.{taken_within, ready_taken, few_taken, same_taken}
 use Rattle.pn_join.proofs.table.edit.open_leaves.Goals as goal
 

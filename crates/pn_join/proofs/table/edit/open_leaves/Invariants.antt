@@ -1,7 +1,7 @@
 use Rattle.std.proofs.Common.{◌≡◌, take, vec_len}
 use Rattle.std.specs.List.{AllByRecursion}
 use Rattle.pn_join.specs.Edits.{IsReadyAt}
-use Rattle.pn_join.specs.LeafEntries.{leaves_of}
+use Rattle.pn_join.specs.Leaves.{leaves_of}
 use Rattle.pn_join.proofs.table.edit.open_leaves.Given as goal
 
 abbrev pub invariant-loop-edit : goal.invariant-loop-edit

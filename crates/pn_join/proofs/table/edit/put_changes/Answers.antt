@@ -1,8 +1,7 @@
 use Rattle.std.proofs.Common.{◌≡◌, [], length, refl, ap, ◌∙◌, arith, rules}
 use Rattle.std.specs.Vec.Iter.{into_iter_items, into_iter_len}
 use Rattle.pn_join.specs.Edits.{put_all}
-use Rattle.pn_join.specs.LeafEntries.{leaves_of}
-use Rattle.pn_join.specs.LeafListChanges.{raised_from}
+use Rattle.pn_join.specs.Leaves.{leaves_of, raised_from}
 use Rattle.pn_join.proofs.PutTogether.{none_left, put_within, is_ready, is_few, is_rising, at_first, sum_fits, raising_next}
 use Rattle.pn_join.proofs.table.edit.put_changes.Goals as goal
 

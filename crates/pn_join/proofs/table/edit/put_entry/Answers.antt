@@ -1,5 +1,5 @@
 use Rattle.std.proofs.Common.{◌≡◌, length, insert, ap, ◌∙◌, sym, arith, rules}
-use Rattle.pn_join.specs.Indices.{index_of}
+use Rattle.pn_join.specs.Tables.{index_of}
 use Rattle.std.proofs.lemmas.List.Edits.{length-insert}
 use Rattle.pn_join.proofs.Indices.{tie_within, gap_within, put_at_tie, put_at_gap}
 use Rattle.pn_join.proofs.table.edit.put_entry.Goals as goal

@@ -1,5 +1,5 @@
 use Rattle.std.proofs.Common.{◌≡◌, suc, ◌+◌, ◌<◌, ◌≤◌, length, min, set, ap, sym, ◌∙◌, arith}
-use Rattle.pn_join.specs.LeafListChanges.{raised_from}
+use Rattle.pn_join.specs.Leaves.{raised_from}
 use Rattle.pn_join.proofs.LeafListEdits.{fit_at, fit_next, fit_later, raise_next, raise_none, raise_past}
 use Rattle.pn_join.proofs.table.entry_counts.raise_between.Goals as goal
 

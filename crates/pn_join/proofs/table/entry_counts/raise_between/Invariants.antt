@@ -1,5 +1,5 @@
 use Rattle.std.proofs.Common.{◌≡◌, ◌-◌, ◌≤◌, vec_len, vec_capacity}
-use Rattle.pn_join.specs.LeafListChanges.{raised_from, FitFrom}
+use Rattle.pn_join.specs.Leaves.{raised_from, FitFrom}
 use Rattle.pn_join.proofs.table.entry_counts.raise_between.Given as goal
 
 abbrev pub invariant-loop-index : goal.invariant-loop-index

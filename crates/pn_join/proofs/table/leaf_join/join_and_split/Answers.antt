@@ -1,5 +1,5 @@
 use Rattle.std.proofs.Common.{arith}
-use Rattle.pn_join.proofs.PutFacts.{length-grows, length-by_one}
+use Rattle.pn_join.proofs.Puts.{length-grows, length-by_one}
 use Rattle.pn_join.proofs.table.leaf_join.join_and_split.Goals as goal
 use Rattle.pn_join.proofs.table.leaf_join.join_and_split.Goals.{then-len-lt-MAX_LEAF_ENTRIES, else-len-lt-MAX_LEAF_ENTRIES}
 

@@ -3,7 +3,7 @@ use Rattle.std.proofs.Common.{◌-◌, ◌++◌, ℕ, List, length, take, drop, 
 use Rattle.std.proofs.lemmas.List.{length-drop}
 use Rattle.pn_lines.specs.Standing.{Stands}
 use Rattle.pn_lines.proofs.Left.{Advances-more, Advances-none}
-use Rattle.pn_lines.proofs.Stepping.{Adds-more, Adds-none, Stands-none, Stands-on, Stands-waited, slice_rest}
+use Rattle.pn_lines.proofs.Steps.{Adds-more, Adds-none, Stands-none, Stands-on, Stands-waited, slice_rest}
 use Rattle.pn_lines.proofs.engine.LineEngine.go_on.Goals as goal
 
 pub steps-init : goal.steps-init

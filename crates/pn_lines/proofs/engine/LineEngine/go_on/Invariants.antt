@@ -1,7 +1,7 @@
 -- Where the engine stood before the call it stands after each step, with what was taken and given; and all units are counted.
 use Rattle.std.proofs.Common.{◌+◌, ◌-◌, ◌≤◌, ◌++◌, ℕ, List, drop, length, take}
 use Rattle.pn_lines.specs.Giving.{Adds}
-use Rattle.pn_lines.specs.Progress.{Advances, Costs}
+use Rattle.pn_lines.specs.Engines.{Advances, Costs}
 use Rattle.pn_lines.specs.Standing.{Stands}
 use Rattle.pn_lines.proofs.engine.LineEngine.go_on.Given as goal
 

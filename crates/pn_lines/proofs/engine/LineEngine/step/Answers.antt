@@ -1,8 +1,8 @@
 -- Where the engine stood it stands after each kind of step.
 use Rattle.std.proofs.Common.{◌++◌}
-use Rattle.pn_lines.specs.Progress.{taken_by}
-use Rattle.pn_lines.specs.declared.engine.stage.Stage.TheVariants.{Reading, Going}
-use Rattle.pn_lines.proofs.Stepping.{Stands-gave, Stands-none, Stands-staged}
+use Rattle.pn_lines.specs.Engines.{taken_by}
+use Rattle.pn_lines.specs.declared.engine.state.Stage.TheVariants.{Reading, Pending}
+use Rattle.pn_lines.proofs.Steps.{Stands-gave, Stands-none, Stands-staged}
 use Rattle.pn_lines.proofs.engine.LineEngine.step.Goals as goal
 
 pub returns-then-has_text-clause-stands : goal.returns-then-has_text-clause-stands
@@ -23,9 +23,9 @@ returns-in-Reading-clause-stands g c = λ start taken out is.
     c.drop_line.ensures.takes.stands start taken (out ++ c.args.replies.now.items)
     (Stands-staged M.handling start taken c.args.bytes.now c.args.is_last (out ++ c.args.replies.now.items) c.args.machine.now c.args.self.now c.take_stage.new.self (Reading c.in-Reading.dropped) (cc (c.take_stage.ensures.stage, c.in-Reading.is)) c.take_stage.ensures.reads is)
 
-pub returns-in-Going-clause-stands : goal.returns-in-Going-clause-stands
-returns-in-Going-clause-stands g c = λ start taken out is.
+pub returns-in-Pending-clause-stands : goal.returns-in-Pending-clause-stands
+returns-in-Pending-clause-stands g c = λ start taken out is.
     let M = g.M.LineHandler in
     Stands-none M.handling start taken c.args.bytes.now c.args.is_last (out ++ c.args.replies.now.items) c.look_on.new.machine c.look_on.new.self
     (c.look_on.ensures.stands start taken (out ++ c.args.replies.now.items) c.args.bytes.now c.args.is_last
-    (Stands-staged M.handling start taken c.args.bytes.now c.args.is_last (out ++ c.args.replies.now.items) c.args.machine.now c.args.self.now c.take_stage.new.self (Going c.in-Going.going c.in-Going.ended) (cc (c.take_stage.ensures.stage, c.in-Going.is)) c.take_stage.ensures.reads is))
+    (Stands-staged M.handling start taken c.args.bytes.now c.args.is_last (out ++ c.args.replies.now.items) c.args.machine.now c.args.self.now c.take_stage.new.self (Pending c.in-Pending.pending c.in-Pending.ended) (cc (c.take_stage.ensures.stage, c.in-Pending.is)) c.take_stage.ensures.reads is))

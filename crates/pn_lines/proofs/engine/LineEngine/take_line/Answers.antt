@@ -3,7 +3,7 @@ use Rattle.std.proofs.Common.{ℕ, ap, ◌∙◌}
 use Rattle.pn_line.specs.Line.{LineBufferValue}
 use Rattle.pn_lines.specs.Engines.{after_answer, with_lines}
 use Rattle.pn_lines.specs.Standing.{count_by}
-use Rattle.pn_lines.proofs.Driving.{count_by-length}
+use Rattle.pn_lines.proofs.Reading.{count_by-length}
 use Rattle.pn_lines.proofs.engine.LineEngine.take_line.Goals as goal
 
 pub returns-clause-asks : goal.returns-clause-asks

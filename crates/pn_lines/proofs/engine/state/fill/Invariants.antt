@@ -2,7 +2,7 @@
 use Rattle.std.proofs.Common.{◌≡◌, ◌⊎◌, ◌+◌, ◌<◌, length, vec_capacity, vec_len}
 use Rattle.pn_lines.specs.Giving.{Gives}
 use Rattle.pn_lines.specs.declared.engine.TheConstants.{BLOCK_BYTES}
-use Rattle.pn_lines.specs.declared.piece_text.TheConstants.{MAX_PIECE_BYTES}
+use Rattle.pn_lines.specs.declared.finding.TheConstants.{MAX_PIECE_BYTES}
 use Rattle.pn_lines.proofs.engine.state.fill.Given as goal
 
 abbrev pub invariant-pieces : goal.invariant-pieces

@@ -1,6 +1,5 @@
 -- What was kept is loaded, worked on, sent and stored.
-use Rattle.pn_lines.specs.TurnStates.{held_in}
-use Rattle.pn_lines.specs.Turns.{at}
+use Rattle.pn_lines.specs.Turns.{held_in, at}
 use Rattle.pn_lines.proofs.Turned.{Turned-stored, held_was}
 use Rattle.pn_lines.proofs.turns.LineTurns.work_and_send.Goals as goal
 

@@ -1,9 +1,9 @@
 -- One turn after another, and those of others in between.
-use Rattle.pn_lines.specs.Ends.{start_at}
+use Rattle.pn_lines.specs.Driving.{start_at}
 use Rattle.pn_lines.specs.Turns.{at}
-use Rattle.pn_lines.specs.declared.engine.stage.LinesEnd.TheVariants.{Input}
+use Rattle.pn_lines.specs.declared.engine.state.LinesEnd.TheVariants.{Input}
 use Rattle.pn_lines.specs.declared.turns.TurnOutcome.TheVariants.{Ended}
-use Rattle.pn_lines.proofs.Following.{Follows-begun, Follows-between, Follows-finished, Follows-going, Follows-over, some_is}
+use Rattle.pn_lines.proofs.Following.{Follows-begun, Follows-between, Follows-finished, Follows-pending, Follows-over, some_is}
 use Rattle.pn_lines.proofs.turns.laws.answer_in_turns.Goals as goal
 
 pub turns-init : goal.turns-init
@@ -16,7 +16,7 @@ turns-preserved g c =
     let start = start_at c.args.machine.now before (g.W.Sink.contents c.args.output.now) in
     let turned = at (g.R.Input.remaining c.turn.new.input) (g.W.Sink.contents c.turn.new.output) c.turn.new.machine c.turn.new.self in
     Follows-between M.handling M.left g.met.M.LineHandler.steady.0 start before turned c.have_turns.new.machine c.have_turns.ensures.moves
-    (Follows-going M.handling M.left g.met.M.LineHandler.steady.0 start before
+    (Follows-pending M.handling M.left g.met.M.LineHandler.steady.0 start before
     (at (g.R.Input.remaining c.turns.input) (g.W.Sink.contents c.turns.output) c.turns.machine c.turns.lines) turned
     c.in-Goes.field-0 c.in-Goes.ensures.turns c.turns.invariant)
 

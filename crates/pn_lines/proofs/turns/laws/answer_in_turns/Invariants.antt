@@ -1,6 +1,6 @@
 -- What came, was taken and went so far.
 use Rattle.std.proofs.Common.{IfSome, ℕ, List}
-use Rattle.pn_lines.specs.Ends.{start_at}
+use Rattle.pn_lines.specs.Driving.{start_at}
 use Rattle.pn_lines.specs.Turns.{Follows, at}
 use Rattle.pn_lines.proofs.turns.laws.answer_in_turns.Given as goal
 

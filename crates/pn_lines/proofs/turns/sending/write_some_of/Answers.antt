@@ -4,7 +4,7 @@ use Rattle.std.proofs.KnownBytes.{Appends-trans}
 use Rattle.std.proofs.Math.Seq.{take-add}
 use Rattle.std.proofs.lemmas.List.{length-drop}
 use Rattle.std.specs.Io.KnownBytes.{Appends}
-use Rattle.pn_lines.proofs.Stepping.{slice_rest}
+use Rattle.pn_lines.proofs.Steps.{slice_rest}
 use Rattle.pn_lines.proofs.turns.sending.write_some_of.Goals as goal
 
 pub writes-preserved : goal.writes-preserved

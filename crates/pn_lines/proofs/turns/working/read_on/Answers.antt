@@ -1,6 +1,5 @@
 -- What came is taken, or there was none.
-use Rattle.pn_lines.specs.TurnStates.{held_in}
-use Rattle.pn_lines.specs.Turns.{at}
+use Rattle.pn_lines.specs.Turns.{held_in, at}
 use Rattle.pn_lines.specs.declared.turns.SourceState.TheVariants.{AtEnd}
 use Rattle.pn_lines.proofs.Working.{Worked-came, Worked-ended, Worked-failed, Worked-nothing}
 use Rattle.pn_lines.proofs.turns.working.read_on.Goals as goal

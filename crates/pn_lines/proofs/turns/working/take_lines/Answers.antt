@@ -1,7 +1,6 @@
 -- A call of the engine, and then perhaps a read.
 use Rattle.std.proofs.Common.{◌≤◌, None, length, inl, arith}
-use Rattle.pn_lines.specs.TurnStates.{held_in}
-use Rattle.pn_lines.specs.Turns.{at}
+use Rattle.pn_lines.specs.Turns.{held_in, at}
 use Rattle.pn_lines.specs.declared.turns.working.TheConstants.{TURN_UNITS}
 use Rattle.pn_lines.specs.declared.turns.working.Work.TheVariants.{Input}
 use Rattle.pn_lines.proofs.Working.{Worked-joined, Worked-once}

@@ -1,8 +1,8 @@
 -- The cells are those of all keys, unless memory ran out.
 use Rattle.std.proofs.Common.{length, Ok, Err, sym, ap, ◌∙◌, subst}
-use Rattle.pn_scan.specs.declared.fault.ScanFault.TheVariants.{Memory}
-use Rattle.pn_live.specs.Getting.{GetWalkValue, EndsGet, IsOnGet}
-use Rattle.pn_live.proofs.GetWalks.{get_done, get_done_without_memory}
+use Rattle.pn_scan.specs.declared.view.ScanFault.TheVariants.{Memory}
+use Rattle.pn_live.specs.Lookups.{GetWalkValue, EndsGet, IsOnGet}
+use Rattle.pn_live.proofs.Getting.{get_done, get_done_without_memory}
 use Rattle.pn_live.proofs.get_walk.GetWalk.end.Goals as goal
 
 pub returns-in-Some-clause-ends : goal.returns-in-Some-clause-ends

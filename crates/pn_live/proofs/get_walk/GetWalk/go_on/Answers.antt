@@ -5,11 +5,11 @@ use Rattle.std.specs.Prelude.{IfErr}
 use Rattle.pn_scan.proofs.Paging.{made_more}
 use Rattle.pn_scan.specs.Paging.{LookMade}
 use Rattle.pn_scan.specs.Views.{is_memory}
-use Rattle.pn_scan.specs.declared.fault.ScanFault.{ScanFault}
-use Rattle.pn_live.specs.Getting.{GetWalkValue, EndsGet, GetsOn, IsOnGet}
+use Rattle.pn_scan.specs.declared.view.ScanFault.{ScanFault}
+use Rattle.pn_live.specs.Lookups.{GetWalkValue, EndsGet, GetsOn, IsOnGet}
 use Rattle.pn_live.specs.Readers.{LiveReaderValue, LooksLive, Tablets}
-use Rattle.pn_live.proofs.GetWalks.{at_hand, follows_more, key_read, key_refused}
-use Rattle.pn_live.proofs.Getting.{capacity_more}
+use Rattle.pn_live.proofs.Getting.{at_hand, follows_more, key_read, key_refused}
+use Rattle.pn_scan.proofs.Getting.{capacity_more}
 use Rattle.pn_live.proofs.Knowing.{looks_same}
 use Rattle.pn_live.proofs.get_walk.GetWalk.go_on.Goals as goal
 

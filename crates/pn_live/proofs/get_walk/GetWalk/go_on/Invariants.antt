@@ -1,9 +1,9 @@
 -- The keys so far were read. If memory did not run out, their cells are at hand, with capacity for the others.
 use Rattle.std.proofs.Common.{◌≡◌, ◌≤◌, ◌++◌, IfSome, List, length, vec_capacity, vec_len}
 use Rattle.pn_scan.specs.Paging.{Follows, LookMade, OnlyLooks}
-use Rattle.pn_live.specs.Getting.{IsOnGet}
+use Rattle.pn_live.specs.Lookups.{IsOnGet}
 use Rattle.pn_live.specs.Readers.{LiveReaderValue, LooksLive, tablets_of}
-use Rattle.pn_live.proofs.GetWalks.{at_hand}
+use Rattle.pn_live.proofs.Getting.{at_hand}
 use Rattle.pn_live.proofs.get_walk.GetWalk.go_on.Given as goal
 
 abbrev pub invariant-loop-index : goal.invariant-loop-index

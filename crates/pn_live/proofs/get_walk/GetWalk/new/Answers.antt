@@ -1,8 +1,8 @@
 -- No key was read.
 use Rattle.std.proofs.Common.{◌≡◌, ◌≤◌, ℕ, length, refl, subst, arith}
 use Rattle.std.specs.Prelude.{IfOk, vec_capacity}
-use Rattle.pn_live.proofs.GetWalks.{of_hand}
-use Rattle.pn_live.proofs.Getting.{Cells, capacity_made, none_at_hand}
+use Rattle.pn_live.proofs.Getting.{of_hand}
+use Rattle.pn_scan.proofs.Getting.{Cells, capacity_made, none_at_hand}
 use Rattle.pn_live.proofs.get_walk.GetWalk.new.Goals as goal
 
 pub returns : goal.returns

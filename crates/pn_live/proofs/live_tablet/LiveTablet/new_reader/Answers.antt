@@ -1,5 +1,5 @@
 -- The new reader takes the writer's view.
-use Rattle.pn_live.proofs.Orders.{admits, forks, merges}
+use Rattle.pn_live.proofs.Prefixes.{admits, forks, merges}
 use Rattle.pn_live.proofs.live_tablet.LiveTablet.new_reader.Goals as goal
 
 pub reader-requires : goal.reader-requires

@@ -3,11 +3,9 @@ use Rattle.std.proofs.Common.{rules, ◌≡◌, ◌++◌, ◌∷◌, [], sym, ap
 use Rattle.pn_tablet.specs.Steps.{after_step}
 use Rattle.pn_tablet.specs.declared.state.TabletOp.{TabletOp}
 use Rattle.pn_live.specs.declared.published_state.PublishedState.{PublishedState}
-use Rattle.pn_live.specs.Attempts.{tried_of}
-use Rattle.pn_live.specs.Drafts.{Lacks}
+use Rattle.pn_live.specs.Attempts.{tried_of, Lacks}
 use Rattle.pn_live.specs.Orders.{list_of}
-use Rattle.pn_live.proofs.Prefixes.{begins_itself, take_of_begins}
-use Rattle.pn_live.proofs.Replays.{replayed_more, later_by}
+use Rattle.pn_live.proofs.Prefixes.{begins_itself, take_of_begins, replayed_more, later_by}
 use Rattle.pn_live.proofs.live_tablet.LiveTablet.with_next.Goals as goal
 
 pub invariant_of-shown : goal.invariant_of-shown

@@ -1,7 +1,7 @@
 -- The attempt to publish one operation more may come next.
 use Rattle.std.proofs.Common.{ap, ◌∙◌, ◌++◌, ◌∷◌, []}
 use Rattle.pn_live.specs.Attempts.{settled_of, tried_of, one_more}
-use Rattle.pn_live.proofs.Chains.{one_more_follows, settled_last, tried_last}
+use Rattle.pn_live.proofs.Prefixes.{one_more_follows, settled_last, tried_last}
 use Rattle.pn_live.proofs.live_tablet.attempts.begin_attempt.Goals as goal
 
 pub append-requires-clause-lawful : goal.append-requires-clause-lawful

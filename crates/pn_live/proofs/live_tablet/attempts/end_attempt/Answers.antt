@@ -1,7 +1,7 @@
 -- The attempt that settles what was tried may come next.
 use Rattle.std.proofs.Common.{ap, ◌∙◌, []}
 use Rattle.pn_live.specs.Attempts.{settled_of, tried_of, well_ended}
-use Rattle.pn_live.proofs.Chains.{well_ended_follows, settled_last, tried_last}
+use Rattle.pn_live.proofs.Prefixes.{well_ended_follows, settled_last, tried_last}
 use Rattle.pn_live.proofs.live_tablet.attempts.end_attempt.Goals as goal
 
 pub append-requires-clause-lawful : goal.append-requires-clause-lawful

@@ -1,13 +1,12 @@
 -- After a join a state takes and refuses what it did before it.
 use Rattle.std.proofs.Common.{◌≡◌, sym, ap, subst, Err}
 use Rattle.std.specs.Prelude.{Option, IfSome, IsOk, MatchOption}
-use Rattle.pn_tablet.specs.Refusals.{Refuses}
-use Rattle.pn_tablet.specs.Steps.{step, tablet_after, is_memory}
+use Rattle.pn_tablet.specs.Steps.{Refuses, step, tablet_after, is_memory}
 use Rattle.pn_tablet.specs.Tablets.{TabletStateValue}
 use Rattle.pn_tablet.specs.declared.fault.OpFault.{OpFault}
 use Rattle.pn_tablet.specs.declared.state.TabletOp.{TabletOp}
-use Rattle.pn_live.specs.Drafts.{TakesJoin, caught_up}
-use Rattle.pn_live.proofs.Joining.{after_ok, applies_as, refused_after}
+use Rattle.pn_live.specs.Attempts.{TakesJoin, caught_up}
+use Rattle.pn_live.proofs.Appending.{after_ok, applies_as, refused_after}
 use Rattle.pn_live.proofs.live_tablet.state_draft.apply_both.Goals as goal
 
 pub returns-in-Ok : goal.returns-in-Ok

@@ -3,8 +3,8 @@ use Rattle.std.proofs.Common.{◌≡◌, sym, ap, ◌∙◌, subst}
 use Rattle.std.specs.Prelude.{Option, IfSome}
 use Rattle.pn_tablet.specs.Tablets.{TabletStateValue}
 use Rattle.pn_tablet.specs.declared.state.TabletOp.{TabletOp}
-use Rattle.pn_live.specs.Drafts.{TakesJoin, caught_up}
-use Rattle.pn_live.proofs.Joining.{Applies, applies_as}
+use Rattle.pn_live.specs.Attempts.{TakesJoin, caught_up}
+use Rattle.pn_live.proofs.Appending.{Applies, applies_as}
 use Rattle.pn_live.proofs.live_tablet.state_draft.apply_to.Goals as goal
 
 pub returns-in-None : goal.returns-in-None

@@ -1,6 +1,6 @@
 -- A join that is taken makes the state after it.
 use Rattle.std.proofs.Common.{sym}
-use Rattle.pn_live.proofs.Joining.{after_ok}
+use Rattle.pn_live.proofs.Appending.{after_ok}
 use Rattle.pn_live.proofs.live_tablet.state_draft.take_join.Goals as goal
 
 pub returns-in-Ok : goal.returns-in-Ok

@@ -3,7 +3,7 @@ use Rattle.std.proofs.Common.{◌++◌, ◌∷◌, [], List, map, ap, ◌∙◌}
 use Rattle.std.proofs.lemmas.List.{map-append}
 use Rattle.logbook.specs.Pages.{Book}
 use Rattle.pn_tablet.specs.declared.state.TabletOp.{TabletOp}
-use Rattle.pn_live.specs.declared.publish_position.PublishPosition.{PublishPosition}
+use Rattle.pn_live.specs.declared.publication_order.PublishPosition.{PublishPosition}
 use Rattle.pn_live.proofs.publication_order.PublicationOrder.add.Goals as goal
 
 abbrev book_of : PublishPosition TabletOp → Book

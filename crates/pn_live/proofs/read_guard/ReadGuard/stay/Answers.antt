@@ -9,10 +9,10 @@ is_within-near-requires c = ap (λ (x : PublishedState). x.position.seen.book) (
 
 pub returns-clause-far : goal.returns-clause-far
 returns-clause-far c =
-    let told = c.args.told.seen.log in
+    let learnt = c.args.learnt.seen.log in
     let found = c.args.found.value in
     let same : c.get-shown.result.now ≡ found = c.get-shown.ensures ∙ c.requires.held in
     ⊎_elim
-    (λ t. absurd (cc (c.if-near.false, c.is_within-near.ensures.exact.1 (subst (λ (x : PublishedState). length told ≤ length x.position.seen.log + 1) (sym same) t.1))))
+    (λ t. absurd (cc (c.if-near.false, c.is_within-near.ensures.exact.1 (subst (λ (x : PublishedState). length learnt ≤ length x.position.seen.log + 1) (sym same) t.1))))
     (λ t. t.1)
-    (leb_tells (length told) (length found.position.seen.log + 1))
+    (leb_tells (length learnt) (length found.position.seen.log + 1))

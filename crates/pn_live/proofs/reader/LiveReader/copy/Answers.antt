@@ -1,8 +1,7 @@
 -- The tablet was looked into.
 use Rattle.std.proofs.Common.{length, ◌≤◌, ap, arith}
 use Rattle.pn_live.specs.Readers.{LiveReaderValue}
-use Rattle.pn_live.proofs.Entering.{reader_within, still_tablet_readers, copied_once}
-use Rattle.pn_live.proofs.Knowing.{looks_same}
+use Rattle.pn_live.proofs.Knowing.{reader_within, still_tablet_readers, copied_once, looks_same}
 use Rattle.pn_live.proofs.reader.LiveReader.copy.Goals as goal
 
 pub index_mut-requires : goal.index_mut-requires

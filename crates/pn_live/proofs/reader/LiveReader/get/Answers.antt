@@ -1,6 +1,6 @@
 -- The reader still reads the same tablets.
-use Rattle.pn_live.proofs.ManyLooks.{all_looks_same}
+use Rattle.pn_live.proofs.Knowing.{all_looks_same}
 use Rattle.pn_live.proofs.reader.LiveReader.get.Goals as goal
 
 pub returns-clause-same : goal.returns-clause-same
-returns-clause-same c = all_looks_same c.get_cells.ensures.0 _ _ c.get_cells.ensures.1.looked
+returns-clause-same c = all_looks_same c.get.ensures.get.0 _ _ c.get.ensures.get.1.looked

@@ -3,8 +3,7 @@ use Rattle.std.proofs.Common.{◌≡◌, List, map, sym, ap, ◌∙◌, subst, a
 use Rattle.std.specs.Vec.{with_items}
 use Rattle.std.proofs.lemmas.List.{with_items_is}
 use Rattle.pn_live.specs.PublishedTablets.{TabletNoteValue}
-use Rattle.pn_live.specs.Readers.{LiveReaderValue}
-use Rattle.pn_live.specs.TabletReaders.{TabletReaderValue, AllLearn}
+use Rattle.pn_live.specs.Readers.{LiveReaderValue, TabletReaderValue, AllLearn}
 use Rattle.pn_live.proofs.Knowing.{learning_all_knows, ends_known, learns_same}
 use Rattle.pn_live.proofs.reader.LiveReader.learn.Goals as goal
 
@@ -29,7 +28,7 @@ returns c =
     let now : LiveReaderValue = record { layout = inside.layout; tablet_readers = (with_items inside.tablet_readers us).items } in
     let same = with_items_is inside.tablet_readers us (omega (arith, c.learn_all.auto.tablet_readers, c.as_mut_slice.ensures.len)) in
     let here : c.as_mut_slice.result.now ≡ was.tablet_readers = c.as_mut_slice.ensures.value ∙ ap (λ (r : LiveReaderValue). r.tablet_readers) c.self.view_is in
-    let told : AllLearn was.tablet_readers c.args.front now.tablet_readers =
+    let learnt : AllLearn was.tablet_readers c.args.front now.tablet_readers =
     subst (λ (rs : List TabletReaderValue). AllLearn was.tablet_readers c.args.front rs) (sym same)
     (subst (λ (rs : List TabletReaderValue). AllLearn rs c.args.front us) here (subst (λ (ns : List TabletNoteValue). AllLearn c.as_mut_slice.result.now ns us) c.into_notes.ensures c.learn_all.ensures)) in
-    record { told = told; same = learns_same was now c.args.front (ap (λ (r : LiveReaderValue). r.layout) c.self.view_is) told }
+    record { learnt = learnt; same = learns_same was now c.args.front (ap (λ (r : LiveReaderValue). r.layout) c.self.view_is) learnt }

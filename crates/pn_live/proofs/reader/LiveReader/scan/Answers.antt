@@ -1,5 +1,5 @@
 -- The reader still reads the same tablets.
-use Rattle.pn_live.proofs.ManyLooks.{all_looks_same}
+use Rattle.pn_live.proofs.Knowing.{all_looks_same}
 use Rattle.pn_live.proofs.reader.LiveReader.scan.Goals as goal
 
 pub returns-clause-same : goal.returns-clause-same

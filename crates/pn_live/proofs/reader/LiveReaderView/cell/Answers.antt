@@ -1,7 +1,7 @@
 -- The key's tablet was looked into.
 use Rattle.std.proofs.Common.{arith}
 use Rattle.pn_scan.specs.Views.{cell_at}
-use Rattle.pn_live.proofs.Entering.{reader_within, still_tablet_readers, looked_once}
+use Rattle.pn_live.proofs.Knowing.{reader_within, still_tablet_readers, looked_once}
 use Rattle.pn_live.proofs.reader.LiveReaderView.cell.Goals as goal
 
 pub index_mut-requires : goal.index_mut-requires

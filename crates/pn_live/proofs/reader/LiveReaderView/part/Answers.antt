@@ -1,10 +1,9 @@
 -- The tablet was looked into.
-use Rattle.std.proofs.Common.{ℕ, length, ◌≡◌, ◌≤◌, max, ap, subst, arith}
-use Rattle.std.specs.Prelude.{IfOk}
-use Rattle.pn_scan.specs.Parts.{looked_in, part_at}
+use Rattle.std.proofs.Common.{length, ◌≤◌, ap, arith}
+use Rattle.pn_scan.specs.Paging.{part_at}
 use Rattle.pn_scan.specs.Views.{rows_at}
 use Rattle.pn_live.specs.Readers.{LiveReaderValue}
-use Rattle.pn_live.proofs.Entering.{reader_within, still_tablet_readers, looked_once}
+use Rattle.pn_live.proofs.Knowing.{reader_within, still_tablet_readers, looked_once}
 use Rattle.pn_live.proofs.reader.LiveReaderView.part.Goals as goal
 
 pub index_mut-requires : goal.index_mut-requires
@@ -28,8 +27,3 @@ returns-clause-look c =
           (looked_once inside.layout inside.tablet_readers.items c.args.tablet c.index_mut.result.now c.part.new.self c.self.invariant few c.index_mut.ensures.value
           (part_at c.args.query.now) c.part.result (rows_at c.args.query.now c.args.room) c.part.ensures.look.0 c.part.ensures.look.1),
     )
-
-pub returns-clause-few : goal.returns-clause-few
-returns-clause-few c =
-    let same : max c.max-work.result 386 ≡ max c.args.budget.work 2048 = omega (arith, c.max-work.ensures) in
-    subst (λ (n : ℕ). IfOk c.part.result (λ part. looked_in n part ≤ n)) same c.part.ensures.few

@@ -1,7 +1,7 @@
 -- The state found extends what was seen.
 use Rattle.std.proofs.Common.{rules}
 use Rattle.pn_live.specs.Orders.{IsLater}
-use Rattle.pn_live.proofs.Replays.{begins_later}
+use Rattle.pn_live.proofs.Prefixes.{begins_later}
 use Rattle.pn_live.proofs.reader_handle.ReaderHandle.enter.Goals as goal
 
 pub stay-requires-clause-begins : goal.stay-requires-clause-begins

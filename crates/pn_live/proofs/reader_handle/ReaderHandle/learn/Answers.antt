@@ -3,7 +3,7 @@ use Rattle.std.proofs.Common.{◌≡◌, ◌⊎◌, ◌<◌, ◌≤◌, nat_lt, 
 use Rattle.std.proofs.lemmas.Bool.Decides.{nat_tests}
 use mathlib.Core.List.{IsPrefix}
 use Rattle.pn_live.specs.Attempts.{settled_of}
-use Rattle.pn_live.specs.TabletReaders.{longer_of}
+use Rattle.pn_live.specs.Readers.{longer_of}
 use Rattle.pn_live.proofs.Prefixes.{begins_no_more}
 use Rattle.pn_live.proofs.reader_handle.ReaderHandle.learn.Goals as goal
 
@@ -24,7 +24,7 @@ longer_is xs ys zs one p q = by_test (nat_lt (length xs) (length ys)) refl
 
 pub returns-clause-longer : goal.returns-clause-longer
 returns-clause-longer c =
-    let own = c.args.self.now.told in
+    let own = c.args.self.now.learnt in
     let note = c.args.note in
     let said = c.later-later.ensures in
     longer_is (settled_of own.seen.log) (settled_of note.seen.log) (settled_of c.later-later.result.seen.log)

@@ -1,6 +1,6 @@
 -- The new marks are those of a region, and nothing else changes.
 use Rattle.std.proofs.Common.{◌≡◌, List, map, Ok, sym, ap, ◌∙◌}
-use Rattle.pn_region.specs.Advancing.{common_marks, after_advance}
+use Rattle.pn_region.specs.Recovery.{common_marks, after_advance}
 use Rattle.pn_region.proofs.Advanced.{advanced_lawful, advanced_to}
 use Rattle.pn_live.specs.LiveRegions.{LiveRegionValue, core}
 use Rattle.pn_live.specs.PublishedTablets.{PublishedTabletValue, state_at}

@@ -7,7 +7,7 @@ use Rattle.pn_region.proofs.RoundSteps.{own_ranges}
 use Rattle.pn_live.specs.LiveRegions.{LiveRegionValue, IsReaderIn}
 use Rattle.pn_live.specs.PublishedTablets.{PublishedTabletValue, state_at}
 use Rattle.pn_live.specs.Readers.{ReadsFrom}
-use Rattle.pn_live.proofs.Closing.{all_read, ranges_of_tablets, parts_of_tablets}
+use Rattle.pn_live.proofs.Learning.{all_read, ranges_of_tablets, parts_of_tablets}
 use Rattle.pn_live.proofs.region.LiveRegion.close.Goals as goal
 
 pub was_all_seen-all_seen-requires : goal.was_all_seen-all_seen-requires

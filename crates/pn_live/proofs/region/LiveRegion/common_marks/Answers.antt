@@ -1,6 +1,6 @@
 -- The marks that were found are those of a region that advances.
 use Rattle.std.proofs.Common.{◌≡◌, List, map, Ok, sym, ap, ◌∙◌, subst}
-use Rattle.pn_region.specs.Advancing.{common_marks, after_advance, with_marks}
+use Rattle.pn_region.specs.Recovery.{common_marks, after_advance, with_marks}
 use Rattle.pn_region.proofs.Advanced.{advanced_to}
 use Rattle.pn_live.specs.LiveRegions.{LiveRegionValue, core}
 use Rattle.pn_live.specs.PublishedTablets.{PublishedTabletValue, state_at}

@@ -4,7 +4,7 @@ use Rattle.std.proofs.lemmas.List.{length-map}
 use Rattle.pn_tablet.specs.Steps.{step}
 use Rattle.pn_tablet.specs.declared.state.TabletOp.TheVariants.{Lose}
 use Rattle.pn_region.specs.Regions.{IsRegion}
-use Rattle.pn_region.proofs.NewRegion.{tablet_count}
+use Rattle.pn_region.proofs.RoundSteps.{tablet_count}
 use Rattle.pn_region.proofs.OneTablet.{stepping_is}
 use Rattle.pn_live.specs.LiveRegions.{LiveRegionValue, core}
 use Rattle.pn_live.specs.PublishedTablets.{PublishedTabletValue, state_at}

@@ -6,7 +6,7 @@ use Rattle.pn_tablet.specs.Layouts.{IsLayout}
 use Rattle.pn_apply.specs.Reducing.{ranges}
 use Rattle.pn_live.specs.LiveRegions.{LiveRegionValue}
 use Rattle.pn_live.specs.PublishedTablets.{PublishedTabletValue, AreNewTablets}
-use Rattle.pn_live.proofs.Opening.{new_ranges, new_lawful, new_readers}
+use Rattle.pn_live.proofs.Events.{new_ranges, new_lawful, new_readers}
 use Rattle.pn_live.proofs.region.LiveRegion.open.Goals as goal
 
 pub readers_of-requires : goal.readers_of-requires

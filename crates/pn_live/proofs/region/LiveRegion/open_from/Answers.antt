@@ -2,11 +2,9 @@
 use Rattle.std.proofs.Common.{sym, subst}
 use Rattle.std.specs.List.{AllByRecursion}
 use Rattle.pn_region.specs.Regions.{RegionValue}
-use Rattle.pn_live.specs.LiveRegions.{tablets_in}
+use Rattle.pn_live.specs.LiveRegions.{tablets_in, StopsStart}
 use Rattle.pn_live.specs.Readers.{Tablets, IsNewReader}
-use Rattle.pn_live.specs.Starting.{StopsStart}
-use Rattle.pn_live.proofs.Events.{new_core}
-use Rattle.pn_live.proofs.Starting.{still_read}
+use Rattle.pn_live.proofs.Events.{new_core, still_read}
 use Rattle.pn_live.proofs.region.LiveRegion.open_from.Goals as goal
 
 pub close-requires : goal.close-requires

@@ -4,11 +4,10 @@ use Rattle.std.specs.Prelude.{IsSomeAnd}
 use Rattle.pn_tablet.specs.Steps.{step}
 use Rattle.pn_region.specs.Recovery.{after_op}
 use Rattle.pn_region.specs.Regions.{IsRegion}
-use Rattle.pn_live.specs.LiveRegions.{LiveRegionValue, core, tablets_in}
+use Rattle.pn_live.specs.LiveRegions.{LiveRegionValue, core, tablets_in, after_op_at}
 use Rattle.pn_live.specs.PublishedTablets.{PublishedTabletValue, TabletNoteValue, state_at, notes_of}
 use Rattle.pn_live.specs.Readers.{AreNotesOf}
-use Rattle.pn_live.specs.Recovery.{after_op_at}
-use Rattle.pn_live.proofs.OneTablet.{there_within, known_there, set_appended, core_after, lawful_after, live_after, same_after, fits_after}
+use Rattle.pn_live.proofs.Rounds.{there_within, known_there, set_appended, core_after, lawful_after, live_after, same_after, fits_after}
 use Rattle.pn_live.proofs.region.LiveRegion.publish_one.Goals as goal
 
 pub index_mut-requires : goal.index_mut-requires

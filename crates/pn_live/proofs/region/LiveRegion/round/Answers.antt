@@ -1,11 +1,10 @@
 -- The shares stand for the deliveries; before they are joined, a refusal changes the log alone.
 use Rattle.std.proofs.Common.{◌≡◌, List, sym, ap, ◌∙◌, subst, Ok}
 use Rattle.std.specs.Prelude.{OnOk, IfErr}
-use Rattle.pn_stream.specs.Positions.{DeliveryValue}
-use Rattle.pn_tablet.specs.Refusals.{Refuses}
-use Rattle.pn_region.specs.Logged.{refused_log}
-use Rattle.pn_region.specs.Marking.{is_memory}
-use Rattle.pn_region.specs.Rounds.{round}
+use Rattle.pn_stream.specs.Brokers.{DeliveryValue}
+use Rattle.pn_tablet.specs.Steps.{Refuses}
+use Rattle.pn_region.specs.Log.{refused_log}
+use Rattle.pn_region.specs.Rounds.{is_memory, round}
 use Rattle.pn_region.specs.declared.fault.RoundFault.{RoundFault}
 use Rattle.pn_live.specs.LiveRegions.{LiveRegionValue, core, tablets_after_round, tablets_in}
 use Rattle.pn_live.proofs.region.LiveRegion.round.Goals as goal

@@ -2,11 +2,10 @@
 use Rattle.std.proofs.Common.{◌≡◌, ◌∷◌, [], List, length, sym, ap, subst, ◌∙◌, arith}
 use Rattle.std.specs.Vec.Iter.{into_iter_items}
 use Rattle.pn_tablet.specs.Copies.{TabletCopyValue}
-use Rattle.pn_live.specs.LiveRegions.{core}
-use Rattle.pn_live.specs.Starting.{StopsAt}
+use Rattle.pn_live.specs.LiveRegions.{core, StopsAt}
 use Rattle.pn_live.specs.declared.fault.StartFault.TheVariants.{Adopt as NotAdopted, Advance}
-use Rattle.pn_live.proofs.Starting.{LeadOn, StopOn, at_last, not_adopted, one_more, one_stop}
-use Rattle.pn_live.proofs.Walks.{nothing_left}
+use Rattle.pn_live.proofs.Events.{LeadOn, StopOn, at_last, not_adopted, one_more, one_stop}
+use Rattle.pn_live.proofs.Appending.{nothing_left}
 use Rattle.pn_live.proofs.region.LiveRegion.start_from.Goals as goal
 
 pub loop-copy-preserved : goal.loop-copy-preserved

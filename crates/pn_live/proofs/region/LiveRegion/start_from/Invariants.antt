@@ -2,7 +2,7 @@
 use Rattle.std.proofs.Common.{◌≡◌, length}
 use Rattle.std.specs.Vec.Iter.{into_iter_items, into_iter_len}
 use Rattle.pn_live.specs.LiveRegions.{tablets_in}
-use Rattle.pn_live.proofs.Starting.{LeadOn, StopOn}
+use Rattle.pn_live.proofs.Events.{LeadOn, StopOn}
 use Rattle.pn_live.proofs.region.LiveRegion.start_from.Given as goal
 
 abbrev pub invariant-loop-copy : goal.invariant-loop-copy

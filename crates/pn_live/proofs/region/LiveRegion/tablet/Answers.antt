@@ -1,7 +1,7 @@
 -- There is a tablet of each number, with the state of what is published.
 use Rattle.std.proofs.Common.{length, slice_get, Some, sym, ap, ◌∙◌, arith}
 use Rattle.std.proofs.lemmas.List.{length-map}
-use Rattle.pn_region.proofs.NewRegion.{tablet_count}
+use Rattle.pn_region.proofs.RoundSteps.{tablet_count}
 use Rattle.pn_live.specs.LiveRegions.{LiveRegionValue, core}
 use Rattle.pn_live.specs.PublishedTablets.{state_at}
 use Rattle.pn_live.proofs.Adopting.{state_there}

@@ -3,7 +3,7 @@ use Rattle.std.proofs.Common.{map, arith}
 use Rattle.std.specs.Vec.Iter.{into_iter_items}
 use Rattle.std.proofs.lemmas.List.{length-map}
 use Rattle.pn_live.specs.PublishedTablets.{state_at}
-use Rattle.pn_live.proofs.Walks.{still_fits}
+use Rattle.pn_live.proofs.Appending.{still_fits}
 use Rattle.pn_live.proofs.region.closing.take_states.Goals as goal
 
 pub push_reserved-requires : goal.push_reserved-requires

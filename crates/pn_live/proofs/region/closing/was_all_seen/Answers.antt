@@ -2,10 +2,9 @@
 use Rattle.std.proofs.Common.{◌≡◌, ◌∷◌, length, sym, ap, subst, ◌∙◌, arith}
 use Rattle.std.specs.List.{AllByRecursion}
 use Rattle.std.specs.Vec.Iter.{into_iter_items}
-use Rattle.pn_live.specs.Closing.{AreOfTablets, AllKnowPublished}
-use Rattle.pn_live.specs.Readers.{LiveReaderValue, ReadsFrom}
-use Rattle.pn_live.proofs.Closing.{tablet_readers_of_tablets}
-use Rattle.pn_live.proofs.Walks.{nothing_left}
+use Rattle.pn_live.specs.Readers.{AreOfTablets, AllKnowPublished, LiveReaderValue, ReadsFrom}
+use Rattle.pn_live.proofs.Learning.{tablet_readers_of_tablets}
+use Rattle.pn_live.proofs.Appending.{nothing_left}
 use Rattle.pn_live.proofs.region.closing.was_all_seen.Goals as goal
 
 pub was_seen-requires : goal.was_seen-requires

@@ -2,8 +2,7 @@
 use Rattle.std.proofs.Common.{◌≡◌, length}
 use Rattle.std.specs.List.{AllByRecursion}
 use Rattle.std.specs.Vec.Iter.{into_iter_items, into_iter_len}
-use Rattle.pn_live.specs.Closing.{AllKnowPublished}
-use Rattle.pn_live.specs.Readers.{ReadsFrom}
+use Rattle.pn_live.specs.Readers.{AllKnowPublished, ReadsFrom}
 use Rattle.pn_live.proofs.region.closing.was_all_seen.Given as goal
 
 abbrev pub invariant-loop-reader : goal.invariant-loop-reader

@@ -1,8 +1,8 @@
 -- Each reader knows no more than is published.
 use Rattle.std.proofs.Common.{drop, sym, ◌∙◌}
 use Rattle.std.specs.Vec.Iter.{into_iter_items}
-use Rattle.pn_live.proofs.Closing.{known_none}
-use Rattle.pn_live.proofs.Walks.{nothing_left}
+use Rattle.pn_live.proofs.Learning.{known_none}
+use Rattle.pn_live.proofs.Appending.{nothing_left}
 use Rattle.pn_live.proofs.region.closing.was_seen.Goals as goal
 
 pub returns : goal.returns

@@ -1,7 +1,7 @@
 -- If the readers that are left know no more than is published, no reader does.
 use Rattle.std.proofs.Common.{◌≡◌, drop, length}
 use Rattle.std.specs.Vec.Iter.{into_iter_items, into_iter_len}
-use Rattle.pn_live.specs.Closing.{AllKnowPublished, AreOfTablets}
+use Rattle.pn_live.specs.Readers.{AllKnowPublished, AreOfTablets}
 use Rattle.pn_live.proofs.region.closing.was_seen.Given as goal
 
 abbrev pub invariant-loop-reader : goal.invariant-loop-reader

@@ -4,7 +4,7 @@ use Rattle.std.specs.List.{range_with_len}
 use Rattle.std.proofs.lemmas.List.{length_push}
 use Rattle.pn_tablet.specs.Layouts.{tablet_ends}
 use Rattle.pn_live.specs.PublishedTablets.{PublishedTabletValue, AreNewTablets}
-use Rattle.pn_live.proofs.Opening.{opened_more}
+use Rattle.pn_live.proofs.Events.{opened_more}
 use Rattle.pn_live.proofs.region.opening.open_tablets.Goals as goal
 
 pub loop-number-preserved : goal.loop-number-preserved

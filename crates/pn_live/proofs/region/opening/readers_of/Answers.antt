@@ -2,8 +2,8 @@
 use Rattle.std.proofs.Common.{map, sym, ap, ◌∙◌}
 use Rattle.pn_apply.specs.Reducing.{ranges}
 use Rattle.pn_live.specs.PublishedTablets.{PublishedTabletValue}
-use Rattle.pn_live.specs.TabletReaders.{TabletReaderValue}
-use Rattle.pn_live.proofs.Opening.{opened_ranges}
+use Rattle.pn_live.specs.Readers.{TabletReaderValue}
+use Rattle.pn_live.proofs.Events.{opened_ranges}
 use Rattle.pn_live.proofs.region.opening.readers_of.Goals as goal
 
 pub of-requires : goal.of-requires

@@ -5,7 +5,7 @@ use Rattle.std.specs.List.{flat_map}
 use Rattle.pn_tablet.specs.Tablets.{TabletStateValue}
 use Rattle.pn_tablet.specs.declared.change.Change.{Change}
 use Rattle.pn_apply.specs.Applying.{all_changes, all_stepped}
-use Rattle.pn_region.proofs.Counting.{all_told}
+use Rattle.pn_region.proofs.RoundSteps.{all_told}
 use Rattle.pn_live.proofs.region.planning.plan_round.Goals as goal
 
 pub returns-clause-changes : goal.returns-clause-changes

@@ -2,7 +2,7 @@
 use Rattle.std.proofs.Common.{◌≡◌, List, [], ◌∷◌, ◌++◌, length, map, take, get_or, sym, ap, ◌∙◌, ◌+◌, arith}
 use Rattle.std.proofs.lemmas.List.{take_more, take_all, length_push, map-append}
 use Rattle.pn_live.specs.PublishedTablets.{PublishedTabletValue, state_at}
-use Rattle.pn_live.proofs.OneTablet.{set_same}
+use Rattle.pn_live.proofs.Rounds.{set_same}
 use Rattle.pn_live.proofs.region.planning.take_drafts.Goals as goal
 
 pub loop-number-preserved : goal.loop-number-preserved

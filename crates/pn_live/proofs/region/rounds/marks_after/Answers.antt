@@ -2,9 +2,9 @@
 use Rattle.std.proofs.Common.{List, subst}
 use Rattle.std.specs.Prelude.{Ok, IfOk, IfErr, ◌≡◌}
 use Rattle.std.proofs.lemmas.List.{map-id}
-use Rattle.pn_stream.specs.Positions.{DeliveryValue}
-use Rattle.pn_tablet.specs.Refusals.{Refuses}
-use Rattle.pn_region.specs.Marking.{is_memory, new_marks}
+use Rattle.pn_stream.specs.Brokers.{DeliveryValue}
+use Rattle.pn_tablet.specs.Steps.{Refuses}
+use Rattle.pn_region.specs.Rounds.{is_memory, new_marks}
 use Rattle.pn_live.proofs.region.rounds.marks_after.Goals as goal
 
 pub returns-clause-ok : goal.returns-clause-ok

@@ -5,8 +5,7 @@ use Rattle.std.specs.Vec.Iter.{into_iter_items}
 use Rattle.pn_tablet.specs.Steps.{step}
 use Rattle.pn_apply.specs.Applying.{all_stepped}
 use Rattle.pn_live.specs.PublishedTablets.{PublishedTabletValue, books_of, state_at, with_op}
-use Rattle.pn_live.proofs.Appending.{tablet_within, publishes_well, brings_positions, one_appended, next_book, all_first, count_stepped, same_count}
-use Rattle.pn_live.proofs.Walks.{nothing_left, past_of, rest_of}
+use Rattle.pn_live.proofs.Appending.{tablet_within, publishes_well, brings_positions, one_appended, next_book, all_first, count_stepped, same_count, nothing_left, past_of, rest_of}
 use Rattle.pn_live.proofs.region.rounds.publish_tablets.Goals as goal
 
 pub bounds-tablets-number : goal.bounds-tablets-number

@@ -1,6 +1,6 @@
 -- What the entry found.
 use Rattle.std.proofs.Common.{Some}
-use Rattle.pn_live.proofs.Entering.{finds_left}
+use Rattle.pn_live.proofs.Knowing.{finds_left}
 use Rattle.pn_live.proofs.tablet_reader.TabletReader.copy_state.Goals as goal
 
 pub returns-in-Ok : goal.returns-in-Ok

@@ -1,6 +1,6 @@
 -- What the entry found.
 use Rattle.std.proofs.Common.{Some, ap}
-use Rattle.pn_live.proofs.Entering.{finds_left}
+use Rattle.pn_live.proofs.Knowing.{finds_left}
 use Rattle.pn_live.proofs.tablet_reader.TabletReader.count_state.Goals as goal
 
 pub returns-in-Ok : goal.returns-in-Ok

@@ -15,9 +15,9 @@ returns-in-Ok c =
         book = (ap (λ s. s.seen.book) found.2 ∙ old.book) i;
         range = (found.3 ∙ old.range) i;
         seen = list;
-        told = (ap (λ s. settled_of s.seen.log) found.2 ∙ old.told) i;
+        learnt = (ap (λ s. settled_of s.seen.log) found.2 ∙ old.learnt) i;
       };
       seen = subst (λ (l : List TabletOp). IsPrefix l list) old.seen found.0;
-      told = subst (λ (l : List TabletOp). IsPrefix l list) old.told found.1;
+      learnt = subst (λ (l : List TabletOp). IsPrefix l list) old.learnt found.1;
       state = refl;
     }

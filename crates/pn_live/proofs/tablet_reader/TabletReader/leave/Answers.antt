@@ -5,8 +5,8 @@ use Rattle.pn_live.proofs.tablet_reader.TabletReader.leave.Goals as goal
 
 pub returns : goal.returns
 returns c = λ i. record {
-  book = (c.of.ensures.book ∙ ap (λ s. s.seen.book) c.leave.ensures.told) i;
+  book = (c.of.ensures.book ∙ ap (λ s. s.seen.book) c.leave.ensures.learnt) i;
   range = (c.of.ensures.range ∙ c.leave.ensures.range) i;
   seen = (c.of.ensures.seen ∙ c.leave.ensures.seen) i;
-  told = (c.of.ensures.told ∙ ap (λ s. settled_of s.seen.log) c.leave.ensures.told) i;
+  learnt = (c.of.ensures.learnt ∙ ap (λ s. settled_of s.seen.log) c.leave.ensures.learnt) i;
 }

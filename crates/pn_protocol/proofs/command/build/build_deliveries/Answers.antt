@@ -1,5 +1,5 @@
-use Rattle.pn_protocol.specs.Command.Deliveries.{batch_in}
-use Rattle.pn_protocol.proofs.Walks.{next_there}
+use Rattle.pn_protocol.specs.Command.Lines.{batch_in}
+use Rattle.pn_protocol.proofs.CommandLimits.{next_there}
 use Rattle.pn_protocol.proofs.command.build.build_deliveries.Goals as goal
 
 pub build_delivery-requires : goal.build_delivery-requires

@@ -3,8 +3,8 @@ use Rattle.std.proofs.Common.{◌≡◌}
 use Rattle.std.specs.Vec.Iter.{into_iter_items}
 use Rattle.serde_json.specs.View.{items_view}
 use Rattle.pn_json.specs.Members.{each_in}
-use Rattle.pn_protocol.specs.Command.Deliveries.{batch_in}
-use Rattle.pn_protocol.proofs.Walks.{onto}
+use Rattle.pn_protocol.specs.Command.Lines.{batch_in}
+use Rattle.pn_protocol.proofs.CommandLimits.{onto}
 use Rattle.pn_protocol.proofs.command.build.build_deliveries.Given as goal
 
 abbrev pub invariant-loop-batch : goal.invariant-loop-batch

@@ -2,11 +2,10 @@
 use Rattle.std.proofs.Common.{◌≡◌, codes, refl, sym, ap, ◌∙◌, rules}
 use Rattle.serde_json.specs.Find.{get}
 use Rattle.serde_json.specs.View.{view, items_view}
-use Rattle.pn_json.specs.Members.{each_in}
+use Rattle.pn_json.specs.Members.{each_in, text_at}
 use Rattle.pn_record.specs.Grammar.{image_in}
-use Rattle.pn_json.specs.Members.{text_at}
-use Rattle.pn_stream.specs.Positions.{DeliveryValue}
-use Rattle.pn_protocol.specs.Command.Deliveries.{number_at, items_at}
+use Rattle.pn_stream.specs.Brokers.{DeliveryValue}
+use Rattle.pn_protocol.specs.Command.Lines.{number_at, items_at}
 use Rattle.pn_protocol.proofs.BatchParts.{parts_found, positions_found, batch_found}
 use Rattle.pn_protocol.proofs.command.build.build_delivery.Goals as goal
 

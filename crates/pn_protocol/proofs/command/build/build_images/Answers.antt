@@ -1,5 +1,5 @@
 use Rattle.pn_record.specs.Grammar.{image_in}
-use Rattle.pn_protocol.proofs.Walks.{next_there}
+use Rattle.pn_protocol.proofs.CommandLimits.{next_there}
 use Rattle.pn_protocol.proofs.command.build.build_images.Goals as goal
 
 pub image_from-requires : goal.image_from-requires

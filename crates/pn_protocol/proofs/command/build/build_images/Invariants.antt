@@ -4,7 +4,7 @@ use Rattle.std.specs.Vec.Iter.{into_iter_items}
 use Rattle.serde_json.specs.View.{items_view}
 use Rattle.pn_json.specs.Members.{each_in}
 use Rattle.pn_record.specs.Grammar.{image_in}
-use Rattle.pn_protocol.proofs.Walks.{onto}
+use Rattle.pn_protocol.proofs.CommandLimits.{onto}
 use Rattle.pn_protocol.proofs.command.build.build_images.Given as goal
 
 abbrev pub invariant-loop-value : goal.invariant-loop-value

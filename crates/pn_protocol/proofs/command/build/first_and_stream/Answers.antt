@@ -3,7 +3,7 @@ use Rattle.std.proofs.Common.{◌≡◌, Some, None, codes, sym, ap, ◌∙◌, 
 use Rattle.serde_json.specs.Find.{as_object}
 use Rattle.serde_json.specs.View.{view, members_view}
 use Rattle.pn_json.specs.Members.{text_at}
-use Rattle.pn_protocol.specs.Command.Deliveries.{number_at}
+use Rattle.pn_protocol.specs.Command.Lines.{number_at}
 use Rattle.pn_protocol.proofs.BatchParts.{nothing_in, found_among}
 use Rattle.pn_protocol.proofs.command.build.first_and_stream.Goals as goal
 

@@ -1,6 +1,5 @@
 use Rattle.pn_protocol.specs.Command.Controls.{control_value}
-use Rattle.pn_protocol.proofs.CommandLines.{answer_long, answer_short}
-use Rattle.pn_protocol.proofs.ControlLines.{answer_found, answer_again}
+use Rattle.pn_protocol.proofs.CommandLines.{answer_long, answer_short, control_answer_found as answer_found, control_answer_again as answer_again}
 use Rattle.pn_protocol.proofs.command.control.control_of.Goals as goal
 
 pub returns-clause-found : goal.returns-clause-found

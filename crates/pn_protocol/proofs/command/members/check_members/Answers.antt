@@ -1,7 +1,7 @@
 use Rattle.std.proofs.Common.{sym, ◌∙◌}
 use Rattle.serde_json.specs.View.{members_view}
 use Rattle.pn_json.specs.Members.{texts}
-use Rattle.pn_protocol.proofs.EachFits.{never_memory}
+use Rattle.pn_protocol.proofs.CommandLimits.{never_memory}
 use Rattle.pn_protocol.proofs.command.members.check_members.Goals as goal
 
 pub returns-clause-memory : goal.returns-clause-memory

@@ -3,7 +3,7 @@ use Rattle.std.proofs.Common.{◌≡◌, codes, Ok, refl, ap, ◌∙◌, rules}
 use Rattle.serde_json.specs.Find.{get}
 use Rattle.serde_json.specs.View.{view, items_view}
 use Rattle.pn_json.specs.Members.{each_in}
-use Rattle.pn_protocol.specs.Command.Deliveries.{batch_in, deliver_at, items_at}
+use Rattle.pn_protocol.specs.Command.Lines.{batch_in, deliver_at, items_at}
 use Rattle.pn_protocol.specs.Command.Meaning.{deliver}
 use Rattle.pn_protocol.proofs.BatchParts.{deliver_found}
 use Rattle.pn_protocol.proofs.command.parse.parse_deliver.Goals as goal

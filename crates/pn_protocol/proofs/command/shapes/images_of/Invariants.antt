@@ -3,8 +3,8 @@ use Rattle.std.proofs.Common.{◌≡◌, drop, length}
 use Rattle.std.specs.Prelude.{vec_len, vec_capacity}
 use Rattle.serde_json.specs.View.{items_view}
 use Rattle.pn_json.specs.Members.{each_in}
-use Rattle.pn_protocol.specs.Command.ShapeChecks.{image_shape}
-use Rattle.pn_protocol.proofs.Walks.{onto}
+use Rattle.pn_protocol.specs.Command.Checks.{image_shape}
+use Rattle.pn_protocol.proofs.CommandLimits.{onto}
 use Rattle.pn_protocol.proofs.command.shapes.images_of.Given as goal
 
 abbrev pub invariant-loop-item : goal.invariant-loop-item

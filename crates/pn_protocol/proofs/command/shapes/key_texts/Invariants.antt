@@ -3,13 +3,13 @@ use Rattle.std.proofs.Common.{◌≡◌, drop, length}
 use Rattle.std.specs.Prelude.{vec_len, vec_capacity}
 use Rattle.serde_json.specs.View.{items_view}
 use Rattle.pn_json.specs.Members.{each_in, texts}
-use Rattle.pn_protocol.specs.Command.ShapeChecks.{key_shape}
-use Rattle.pn_protocol.proofs.Walks.{onto}
+use Rattle.pn_protocol.specs.Command.Checks.{key_shape}
+use Rattle.pn_protocol.proofs.CommandLimits.{onto}
 use Rattle.pn_protocol.proofs.command.shapes.key_texts.Given as goal
 
 abbrev pub invariant-loop-item : goal.invariant-loop-item
 invariant-loop-item l = record {
-  so_far : each_in (key_shape l.part) (items_view l.items) ≡ onto (texts l.keys.items) (each_in (key_shape l.part) (items_view (drop l.item-index l.items)));
+  so_far : each_in (key_shape l.member_name) (items_view l.items) ≡ onto (texts l.keys.items) (each_in (key_shape l.member_name) (items_view (drop l.item-index l.items)));
   count : vec_len l.keys ≡ l.item-index;
   capacity : vec_capacity l.keys ≡ length l.items;
 }

@@ -2,8 +2,7 @@
 use Rattle.std.proofs.Common.{rules, ◌≡◌, ◌++◌, List, ℕ, map, codes, inl, false, refl, ap, ◌∙◌}
 use Rattle.serde_json.specs.View.{items_of}
 use Rattle.serde_json.specs.Written.{items_text}
-use Rattle.pn_protocol.specs.Reply.Rows.{row_data}
-use Rattle.pn_protocol.specs.Reply.Scan.{head_text}
+use Rattle.pn_protocol.specs.Reply.Records.{row_data, head_text}
 use Rattle.pn_protocol.proofs.MadeReplies.{page_text}
 use Rattle.pn_protocol.proofs.reply.answers.page_reply.Goals as goal
 

@@ -1,5 +1,5 @@
 -- The line names each fault, unless memory runs out.
-use Rattle.pn_protocol.proofs.Refusals.{told}
+use Rattle.pn_protocol.proofs.MadeReplies.{told}
 use Rattle.pn_protocol.proofs.reply.refusals.refuse.Goals as goal
 
 pub returns-in-Lookup : goal.returns-in-Lookup

@@ -1,6 +1,6 @@
 -- What is left from each cursor.
 use Rattle.std.proofs.Common.{[], refl, sym, subst}
-use Rattle.pn_json.specs.AppendedText.{MakesPiece}
+use Rattle.pn_json.specs.Tokens.{MakesPiece}
 use Rattle.pn_protocol.specs.declared.reply.rows_text.RowsCursor.{RowsCursor}
 use Rattle.pn_protocol.specs.Reply.Making.{IsCursorOf, end_of, found_in, cursor_rest}
 use Rattle.pn_protocol.proofs.MadeRows.{nothing_made}

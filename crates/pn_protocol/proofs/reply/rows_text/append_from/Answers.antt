@@ -3,7 +3,7 @@ use Rattle.std.proofs.Common.{sym, subst, arith}
 use Rattle.std.proofs.lemmas.Option.{slice_get_within}
 use Rattle.std.specs.Option.{option_copied}
 use Rattle.std.specs.List.{slice_get}
-use Rattle.pn_json.specs.AppendedText.{MakesPiece}
+use Rattle.pn_json.specs.Tokens.{MakesPiece}
 use Rattle.pn_json.proofs.AppendedTexts.{appended_as}
 use Rattle.serde_json.specs.Written.{comma_if}
 use Rattle.pn_protocol.specs.declared.reply.rows_text.RowsCursor.{RowsCursor}

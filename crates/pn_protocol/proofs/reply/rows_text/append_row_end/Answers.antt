@@ -4,7 +4,7 @@ use Rattle.json.specs.Print.{quoted}
 use Rattle.serde_json.specs.Written.{compact_text}
 use Rattle.pn_json.proofs.AppendedTexts.{appended_as, appended_both}
 use Rattle.pn_record.specs.Writing.{version_data}
-use Rattle.pn_protocol.specs.Reply.Rows.{state_word}
+use Rattle.pn_protocol.specs.Reply.Records.{state_word}
 use Rattle.pn_protocol.proofs.MadeRows.{length-row_end}
 use Rattle.pn_protocol.proofs.reply.rows_text.append_row_end.Goals as goal
 

@@ -1,7 +1,7 @@
 -- The query's text, or null.
 use Rattle.std.specs.Option.{option_copied}
-use Rattle.pn_json.proofs.TokenLists.{has_value}
-use Rattle.pn_protocol.specs.Reply.Scan.{next_data}
+use Rattle.pn_json.proofs.AppendedTexts.{has_value}
+use Rattle.pn_protocol.specs.Reply.Records.{next_data}
 use Rattle.pn_protocol.proofs.MadeReplies.{value_text}
 use Rattle.pn_protocol.proofs.reply.scan.next_text.Goals as goal
 

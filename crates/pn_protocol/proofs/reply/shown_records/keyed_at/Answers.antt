@@ -1,6 +1,6 @@
 -- A key and a cell of the same index.
 use Rattle.std.proofs.Common.{Some, sym, ◌∙◌}
-use Rattle.pn_protocol.proofs.ShownRecords.{zip_both, zip_past_first, zip_past_second}
+use Rattle.pn_protocol.proofs.MadeReplies.{zip_both, zip_past_first, zip_past_second}
 use Rattle.pn_protocol.proofs.reply.shown_records.keyed_at.Goals as goal
 
 pub returns-in_err-key : goal.returns-in_err-key

@@ -1,7 +1,7 @@
 -- The only record is the first.
 use Rattle.std.proofs.Common.{Some, ◌∙◌}
 use Rattle.pn_protocol.specs.Reply.Making.{Found}
-use Rattle.pn_protocol.proofs.ShownRecords.{first_record, only_record}
+use Rattle.pn_protocol.proofs.MadeReplies.{first_record, only_record}
 use Rattle.pn_protocol.proofs.reply.shown_records.only_at.Goals as goal
 
 pub returns-then-index-gt0 : goal.returns-then-index-gt0

@@ -1,5 +1,5 @@
 -- The tablets are those of the ranges between the bounds.
-use Rattle.pn_region.proofs.NewRegion.{tablet_count}
+use Rattle.pn_region.proofs.RoundSteps.{tablet_count}
 use Rattle.pn_protocol.proofs.reply.tablets.recall_tablet_count.Goals as goal
 
 pub returns : goal.returns

@@ -1,7 +1,7 @@
 -- The text is the line of the value that was written.
 use Rattle.std.proofs.lemmas.Result.{IfOk-weaker}
-use Rattle.pn_protocol.specs.Reply.Tablets.{tablets_data}
-use Rattle.pn_json.proofs.TokenLists.{has_value}
+use Rattle.pn_protocol.specs.Reply.Short.{tablets_data}
+use Rattle.pn_json.proofs.AppendedTexts.{has_value}
 use Rattle.pn_protocol.proofs.reply.tablets.tablets_reply.Goals as goal
 
 pub returns : goal.returns

@@ -3,11 +3,11 @@ use Rattle.std.proofs.Common.{ℕ, List, Option, codes, ap, ◌∙◌}
 use Rattle.serde_json.specs.Data.{Data, object, member, no_members}
 use Rattle.pn_join.specs.Marks.{Positions}
 use Rattle.pn_record.specs.Marks.{marks_data}
-use Rattle.pn_tablet.specs.Ranges.{Ends}
+use Rattle.pn_tablet.specs.Layouts.{Ends}
 use Rattle.pn_tablet.specs.declared.state.Status.{Status}
-use Rattle.pn_protocol.specs.Reply.Tablets.{end_data, need_data, tablet_data}
+use Rattle.pn_protocol.specs.Reply.Short.{end_data, need_data, tablet_data}
 use Rattle.pn_json.specs.Tokens.{value_tokens}
-use Rattle.pn_json.proofs.TokenLists.{appends_token, appends_both, appends_as}
+use Rattle.pn_json.proofs.AppendedTexts.{appends_token, appends_both, appends_as}
 use Rattle.pn_protocol.proofs.reply.tablets.write_tablet.Goals as goal
 
 -- a tablet of these parts

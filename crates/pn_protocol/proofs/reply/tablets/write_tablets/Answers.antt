@@ -2,9 +2,9 @@
 use Rattle.std.proofs.Common.{◌≤◌, List, length, map, ap, arith}
 use Rattle.std.proofs.lemmas.List.{take_all}
 use Rattle.pn_tablet.specs.Tablets.{TabletStateValue}
-use Rattle.pn_protocol.specs.Reply.Tablets.{tablet_data}
+use Rattle.pn_protocol.specs.Reply.Short.{tablet_data}
 use Rattle.pn_json.specs.Tokens.{values_tokens}
-use Rattle.pn_json.proofs.TokenLists.{appends_none, appends_token, appends_both, appends_as, whole_array, one_more_item}
+use Rattle.pn_json.proofs.AppendedTexts.{appends_none, appends_token, appends_both, appends_as, whole_array, one_more_item}
 use Rattle.pn_protocol.proofs.reply.tablets.write_tablets.Goals as goal
 
 pub loop-number-init : goal.loop-number-init

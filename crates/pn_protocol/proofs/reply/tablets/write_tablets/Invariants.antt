@@ -1,6 +1,6 @@
 -- The tablets so far were written.
 use Rattle.std.proofs.Common.{map, take}
-use Rattle.pn_protocol.specs.Reply.Tablets.{tablet_data}
+use Rattle.pn_protocol.specs.Reply.Short.{tablet_data}
 use Rattle.pn_json.specs.Tokens.{Appends, values_tokens}
 use Rattle.pn_protocol.proofs.reply.tablets.write_tablets.Given as goal
 

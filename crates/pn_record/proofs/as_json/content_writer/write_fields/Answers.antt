@@ -3,10 +3,9 @@ use Rattle.std.proofs.Common.{map, refl, ap}
 use Rattle.std.specs.List.{flat_map}
 use Rattle.std.proofs.lemmas.List.{take_all}
 use Rattle.pn_record.specs.Showing.{shown_field}
-use Rattle.pn_record.specs.Tokens.{field_tokens}
-use Rattle.pn_json.proofs.TokenLists.{appends_none, appends_token, appends_both, appends_as, whole_object, one_more}
+use Rattle.pn_record.specs.Writing.{field_tokens, value_data, fields_data}
+use Rattle.pn_json.proofs.AppendedTexts.{appends_none, appends_token, appends_both, appends_as, whole_object, one_more}
 use Rattle.pn_record.specs.Limits.{Field}
-use Rattle.pn_record.specs.Writing.{value_data, fields_data}
 use Rattle.pn_record.proofs.as_json.content_writer.write_fields.Goals as goal
 
 pub loop-field-init : goal.loop-field-init

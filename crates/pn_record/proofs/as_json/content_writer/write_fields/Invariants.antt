@@ -3,7 +3,7 @@ use Rattle.std.proofs.Common.{map, take}
 use Rattle.std.specs.List.{flat_map}
 use Rattle.pn_record.specs.Showing.{shown_field}
 use Rattle.pn_json.specs.Tokens.{Appends}
-use Rattle.pn_record.specs.Tokens.{field_tokens}
+use Rattle.pn_record.specs.Writing.{field_tokens}
 use Rattle.pn_record.proofs.as_json.content_writer.write_fields.Given as goal
 
 abbrev pub invariant-loop-field : goal.invariant-loop-field

@@ -1,4 +1,4 @@
-use Rattle.pn_json.proofs.Inverses.{right_same}
+use Rattle.pn_json.proofs.LookUps.{right_same}
 use Rattle.pn_record.proofs.MarksValues.{answer_marks, marks_again}
 use Rattle.pn_record.proofs.as_json.marks.marks_of.Goals as goal
 

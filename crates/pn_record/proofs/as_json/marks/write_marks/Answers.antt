@@ -2,10 +2,10 @@
 use Rattle.std.proofs.Common.{rules, ◌≡◌, ℕ, List, [], ◌++◌, refl, sym, ap, ◌∙◌, append-nil}
 use Rattle.std.specs.List.{flat_map}
 use Rattle.pn_json.specs.Tokens.{Appends}
-use Rattle.pn_json.proofs.TokenLists.{appends_token, whole_object}
+use Rattle.pn_json.proofs.AppendedTexts.{appends_token, whole_object}
 use Rattle.serde_json.specs.Data.{number, unsigned}
 use Rattle.pn_record.specs.Marks.{positions_data}
-use Rattle.pn_record.specs.Tokens.{mark_tokens}
+use Rattle.pn_record.specs.Writing.{mark_tokens}
 use Rattle.pn_record.proofs.as_json.marks.write_marks.Goals as goal
 
 pub returns : goal.returns

@@ -1,7 +1,7 @@
 -- What was written, and the marks that are left, are all marks.
 use Rattle.std.proofs.Common.{◌≡◌, ◌++◌}
 use Rattle.std.specs.List.{flat_map}
-use Rattle.pn_record.specs.Tokens.{mark_tokens}
+use Rattle.pn_record.specs.Writing.{mark_tokens}
 use Rattle.pn_record.proofs.as_json.marks.write_marks.Given as goal
 
 abbrev pub invariant-loop-name : goal.invariant-loop-name

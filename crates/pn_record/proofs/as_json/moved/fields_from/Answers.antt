@@ -1,8 +1,8 @@
 use Rattle.std.proofs.Common.{◌≡◌, map, rules}
 use Rattle.serde_json.specs.View.{members_view}
 use Rattle.pn_record.specs.Showing.{shown_field}
-use Rattle.pn_record.specs.BodyGrammar.{fields_of}
-use Rattle.pn_record.proofs.Fields.{fields_rise}
+use Rattle.pn_record.specs.Grammar.{fields_of}
+use Rattle.pn_record.proofs.MarksValues.{fields_rise}
 use Rattle.pn_record.proofs.as_json.moved.fields_from.Goals as goal
 
 pub returns-clause-rising : goal.returns-clause-rising

@@ -2,14 +2,13 @@
 use Rattle.std.proofs.Common.{◌≡◌, codes, true, IsTrue, sym, subst, rules}
 use Rattle.serde_json.specs.Find.{get}
 use Rattle.serde_json.specs.View.{view}
-use Rattle.pn_join.specs.Naming.{is_name}
-use Rattle.pn_record.specs.BodyGrammar.{body_fits}
+use Rattle.pn_join.specs.Marks.{is_name}
+use Rattle.pn_record.specs.Grammar.{body_fits, numbers_at, fields_at}
 use Rattle.pn_record.specs.Limits.{is_key, is_version}
 use Rattle.pn_json.specs.Members.{text_at}
-use Rattle.pn_record.specs.Parts.{numbers_at, fields_at}
 use Rattle.pn_record.specs.Showing.{shown_body}
 use Rattle.pn_record.proofs.ImageParts.{parts_found}
-use Rattle.pn_record.proofs.Limiting.{content_from}
+use Rattle.pn_record.proofs.SameImage.{content_from}
 use Rattle.pn_record.proofs.as_json.moved.image_from.Goals as goal
 
 pub of_fitting-requires : goal.of_fitting-requires

@@ -3,8 +3,8 @@ use Rattle.std.proofs.Common.{◌≡◌, Some, None, ap, ◌∙◌, rules}
 use Rattle.serde_json.specs.Find.{as_object}
 use Rattle.serde_json.specs.View.{view, members_view}
 use Rattle.pn_json.specs.Members.{text_at}
-use Rattle.pn_record.specs.Parts.{numbers_at}
-use Rattle.pn_record.proofs.ImageOrder.{object_there, walked}
+use Rattle.pn_record.specs.Grammar.{numbers_at}
+use Rattle.pn_record.proofs.ImageParts.{object_there, walked}
 use Rattle.pn_record.proofs.as_json.moved.parts_after_body.Goals as goal
 
 pub unreachable-requires : goal.unreachable-requires

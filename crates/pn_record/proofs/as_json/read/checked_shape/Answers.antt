@@ -2,10 +2,10 @@
 use Rattle.std.proofs.Common.{◌≡◌, true, Ok, rules}
 use Rattle.serde_json.specs.View.{view}
 use Rattle.pn_record.specs.Grammar.{ranges_in}
-use Rattle.pn_record.specs.Seen.{body_rises}
+use Rattle.pn_record.specs.Reading.{body_rises}
 use Rattle.pn_record.specs.Writing.{image_data}
-use Rattle.pn_record.specs.declared.image.Image.{Image}
-use Rattle.pn_record.proofs.Limiting.{image_from_ranges}
+use Rattle.pn_record.specs.declared.records.Image.{Image}
+use Rattle.pn_record.proofs.SameImage.{image_from_ranges}
 use Rattle.pn_record.proofs.as_json.read.checked_shape.Goals as goal
 
 pub returns-clause-found : goal.returns-clause-found

@@ -2,7 +2,7 @@
 use Rattle.std.proofs.Common.{◌≡◌, ◌++◌, map}
 use Rattle.serde_json.specs.View.{members_view}
 use Rattle.pn_record.specs.Showing.{shown_field}
-use Rattle.pn_record.specs.BodyGrammar.{fields_of}
+use Rattle.pn_record.specs.Grammar.{fields_of}
 use Rattle.pn_record.proofs.as_json.read.fields_from.Given as goal
 
 abbrev pub invariant-loop-name : goal.invariant-loop-name

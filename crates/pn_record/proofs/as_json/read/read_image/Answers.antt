@@ -1,10 +1,8 @@
 -- The image of the value that was read is that of the line.
-use Rattle.pn_json.proofs.Inverses.{right_same}
-use Rattle.pn_record.specs.Canonical.{IsImage}
+use Rattle.pn_json.proofs.LookUps.{right_same}
+use Rattle.pn_record.specs.Reading.{IsImage, image_at}
 use Rattle.pn_record.specs.Grammar.{image_in}
-use Rattle.pn_record.specs.Reading.{image_at}
-use Rattle.pn_record.proofs.Lines.{found_in_line, right_of_line, long_by_reading}
-use Rattle.pn_record.proofs.ImageLines.{image_line_again}
+use Rattle.pn_record.proofs.ImageLines.{found_in_line, right_of_line, long_by_reading, image_line_again}
 use Rattle.pn_record.proofs.as_json.read.read_image.Goals as goal
 
 pub returns-clause-found : goal.returns-clause-found

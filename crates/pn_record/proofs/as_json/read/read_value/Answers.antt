@@ -1,4 +1,4 @@
-use Rattle.pn_record.proofs.Lines.{value_at-read, value_at-refused, refused_right}
+use Rattle.pn_record.proofs.ImageLines.{value_at-read, value_at-refused, refused_right}
 use Rattle.pn_record.proofs.as_json.read.read_value.Goals as goal
 
 pub returns-in-Ok-clause-exact : goal.returns-in-Ok-clause-exact

@@ -1,4 +1,4 @@
-use Rattle.pn_record.proofs.Fields.{fields_rise}
+use Rattle.pn_record.proofs.MarksValues.{fields_rise}
 use Rattle.pn_record.proofs.as_json.unchecked.fields_of.Goals as goal
 
 pub returns-in-Some-clause-rising : goal.returns-in-Some-clause-rising

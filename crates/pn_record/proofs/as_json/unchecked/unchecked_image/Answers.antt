@@ -3,8 +3,8 @@ use Rattle.std.proofs.Common.{◌≡◌, Some, Ok, rules}
 use Rattle.serde_json.specs.Find.{as_object}
 use Rattle.serde_json.specs.View.{view, members_view}
 use Rattle.pn_record.specs.Grammar.{shape_in}
-use Rattle.pn_record.specs.Seen.{seen_fields}
-use Rattle.pn_record.specs.declared.image.Image.{Image}
+use Rattle.pn_record.specs.Reading.{seen_fields}
+use Rattle.pn_record.specs.declared.records.Image.{Image}
 use Rattle.pn_record.proofs.SameImage.{shape_found_in}
 use Rattle.pn_record.proofs.as_json.unchecked.unchecked_image.Goals as goal
 

@@ -1,4 +1,4 @@
-use Rattle.pn_record.proofs.Members.{put_next_shown}
+use Rattle.pn_record.proofs.MarksValues.{put_next_shown}
 use Rattle.pn_record.proofs.as_json.write.fields_value.Goals as goal
 
 pub loop-name-preserved : goal.loop-name-preserved

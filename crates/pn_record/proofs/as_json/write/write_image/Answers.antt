@@ -5,10 +5,9 @@ use Rattle.serde_json.specs.Data.{Data, depth}
 use Rattle.serde_json.specs.View.{view}
 use Rattle.serde_json.specs.Written.{compact_text, has_float}
 use Rattle.pn_record.specs.Writing.{image_data}
-use Rattle.pn_record.specs.Canonical.{IsImageLine}
-use Rattle.pn_record.proofs.ImageText.{has_float-image_data, depth-image_data}
+use Rattle.pn_record.specs.Reading.{IsImageLine}
+use Rattle.pn_record.proofs.ImageText.{has_float-image_data, depth-image_data, short_text, written_line}
 use Rattle.pn_record.proofs.ImageLines.{image_line_again}
-use Rattle.pn_record.proofs.Written.{short_text, written_line}
 use Rattle.pn_record.proofs.as_json.write.write_image.Goals as goal
 
 text_is : (c : goal.Joined-value-2) → string_bytes c.in_ok-to_string.field-0 ≡ compact_text (image_data c.args.image.now)

@@ -1,9 +1,9 @@
 -- What is gathered is some, and where the contents are the same nothing is to be gathered.
 use Rattle.std.proofs.Common.{◌<◌, List, length, sym, ◌∙◌, subst}
-use Rattle.pn_record.specs.Held.{held_contents}
+use Rattle.pn_record.specs.Showing.{held_contents}
 use Rattle.pn_record.specs.Limits.{ContentValue}
 use Rattle.pn_record.specs.Sets.{IsContents}
-use Rattle.pn_record.specs.Laws.Unions.{some-set_of, same_contents}
+use Rattle.pn_record.specs.Laws.{some-set_of, same_contents}
 use Rattle.pn_record.proofs.cell.Cell.add_contents.Goals as goal
 
 pub returns-in_ok-self-inside-clause-some : goal.returns-in_ok-self-inside-clause-some

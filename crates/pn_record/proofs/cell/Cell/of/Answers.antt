@@ -1,9 +1,9 @@
 -- The cell holds its one content.
 use Rattle.std.proofs.Common.{◌≡◌, ◌∷◌, [], List, sym, ap, subst}
-use Rattle.pn_record.specs.Held.{held_contents}
+use Rattle.pn_record.specs.Showing.{held_contents}
 use Rattle.pn_record.specs.Limits.{ContentValue}
 use Rattle.pn_record.specs.Sets.{IsContents, set_of}
-use Rattle.pn_record.specs.Laws.Unions.{set_of-one, some-set_of}
+use Rattle.pn_record.specs.Laws.{set_of-one, some-set_of}
 use Rattle.pn_record.proofs.cell.Cell.of.Goals as goal
 
 module _ (c : goal.In_ok-new) where

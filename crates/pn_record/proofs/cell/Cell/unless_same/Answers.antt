@@ -2,7 +2,7 @@
 use Rattle.std.proofs.Common.{◌≡◌, true, false, sym, ap, ◌∙◌}
 use Rattle.std.specs.FinMap.{keys}
 use Rattle.pn_record.specs.Sets.{CellValue, set_of}
-use Rattle.pn_record.specs.Laws.Unions.{set_of-keys}
+use Rattle.pn_record.specs.Laws.{set_of-keys}
 use Rattle.pn_record.proofs.cell.Cell.unless_same.Goals as goal
 
 pub returns-then-are_same-clause-cell : goal.returns-then-are_same-clause-cell

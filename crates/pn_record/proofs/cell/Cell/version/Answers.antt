@@ -1,7 +1,7 @@
 -- A cell's contents are some.
 use Rattle.std.proofs.Common.{subst}
 use Rattle.pn_record.specs.Sets.{HasContents}
-use Rattle.pn_record.specs.Laws.Unions.{some-set_of}
+use Rattle.pn_record.specs.Laws.{some-set_of}
 use Rattle.pn_record.proofs.cell.Cell.version.Goals as goal
 
 pub returns-clause-some : goal.returns-clause-some

@@ -1,6 +1,6 @@
 -- Where the contents are the same nothing is to be gathered.
 use Rattle.std.proofs.Common.{sym, ◌∙◌}
-use Rattle.pn_record.specs.Laws.Unions.{same_contents}
+use Rattle.pn_record.specs.Laws.{same_contents}
 use Rattle.pn_record.proofs.cell.Cell.with_contents_of.Goals as goal
 
 pub returns-then-are_same-clause-gathered : goal.returns-then-are_same-clause-gathered

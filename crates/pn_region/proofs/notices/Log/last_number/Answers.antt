@@ -2,7 +2,7 @@
 use Rattle.std.proofs.Common.{◌≡◌, List, subst}
 use Rattle.pn_region.specs.declared.notices.Entry.{Entry}
 use Rattle.pn_region.specs.Log.{last_of}
-use Rattle.pn_region.proofs.Telling.{last_given}
+use Rattle.pn_region.proofs.LogLaws.{last_given}
 use Rattle.pn_region.proofs.notices.Log.last_number.Goals as goal
 
 pub returns : goal.returns

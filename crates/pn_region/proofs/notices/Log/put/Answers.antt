@@ -1,5 +1,5 @@
 -- One more entry.
-use Rattle.pn_region.proofs.Keeping.{goes_on}
+use Rattle.pn_region.proofs.LogLaws.{goes_on}
 use Rattle.pn_region.proofs.notices.Log.put.Goals as goal
 
 pub invariant_of-self-else-self-gt-LAST_NUMBER : goal.invariant_of-self-else-self-gt-LAST_NUMBER

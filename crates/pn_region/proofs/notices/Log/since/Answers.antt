@@ -2,9 +2,8 @@
 use Rattle.std.proofs.Common.{List, refl, sym, ap, ◌∙◌, subst}
 use Rattle.pn_region.specs.declared.notices.Entry.{Entry}
 use Rattle.pn_region.specs.declared.notices.Since.TheVariants.{Notices, Missed}
-use Rattle.pn_region.specs.Log.{last_of}
-use Rattle.pn_region.specs.Since.{IsSince}
-use Rattle.pn_region.proofs.Telling.{tells, misses}
+use Rattle.pn_region.specs.Log.{last_of, IsSince}
+use Rattle.pn_region.proofs.LogLaws.{tells, misses}
 use Rattle.pn_region.proofs.notices.Log.since.Goals as goal
 
 pub returns-in_ok-copy_notices-in-Some : goal.returns-in_ok-copy_notices-in-Some

@@ -1,11 +1,10 @@
 -- The copy's tablet takes it.
 use Rattle.std.proofs.Common.{◌≡◌, true, sym, ap, ◌∙◌, subst}
-use Rattle.pn_tablet.specs.Refusals.{Refuses}
-use Rattle.pn_tablet.specs.Steps.{is_memory}
+use Rattle.pn_tablet.specs.Steps.{Refuses, is_memory}
 use Rattle.pn_region.specs.Recovery.{after_adoption}
 use Rattle.pn_region.proofs.Common.{Some, TabletCopyValue, lie_in, Adopt, tablet_for, after_adoption_by, LoggedRegion, RegionValue}
 use Rattle.pn_region.proofs.OneTablet.{stands_at, now_lawful, adopted_at, refused_at}
-use Rattle.pn_stream.proofs.Runs.{handed_on}
+use Rattle.pn_stream.proofs.Runs.{passed_on}
 use Rattle.pn_region.proofs.region.Region.adopt.Goals as goal
 
 pub returns-in_default-clause-refused : goal.returns-in_default-clause-refused
@@ -21,7 +20,7 @@ returns-in_err-apply-clause-refused c =
     let found = subst (λ (r : RegionValue). tablet_for r c.args.copy ≡ Some c.in-Some.tablet) (sym (ap (λ (r : LoggedRegion). r.state) c.self.view_is)) (ap (tablet_for c.args.self.now.state) (sym c.copy.view_is) ∙ sym c.in-Some.ensures) in
     let t = c.index_mut.result.now in
     let refusal = c.in_err-apply.field-0.0 in
-    handed_on c.from_residual.result refusal (λ fault. Refuses is_memory fault (after_adoption c.args.self.now.state c.args.copy)) c.from_residual.ensures.1
+    passed_on c.from_residual.result refusal (λ fault. Refuses is_memory fault (after_adoption c.args.self.now.state c.args.copy)) c.from_residual.ensures.1
     (subst (λ (r : RegionValue). Refuses is_memory refusal (after_adoption r c.args.copy)) (ap (λ (r : LoggedRegion). r.state) c.self.view_is)
     (refused_at old c.args.copy c.in-Some.tablet t found (stands_at old c.args.copy c.in-Some.tablet t found c.index_mut.ensures.value) refusal c.in_err-apply.ensures.refused))
 

@@ -1,6 +1,6 @@
 -- The new marks are those of a region.
 use Rattle.std.proofs.Common.{◌≡◌, map, Ok, sym, ap, ◌∙◌}
-use Rattle.pn_region.specs.Advancing.{common_marks}
+use Rattle.pn_region.specs.Recovery.{common_marks}
 use Rattle.pn_region.proofs.Advanced.{advanced_lawful}
 use Rattle.pn_region.proofs.Common.{TabletStateValue, RegionValue}
 use Rattle.pn_region.proofs.RoundSteps.{same_list}

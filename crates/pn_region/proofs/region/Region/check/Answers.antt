@@ -2,12 +2,11 @@
 use Rattle.std.proofs.Common.{◌≡◌, ap, ◌∙◌, subst}
 use Rattle.std.proofs.lemmas.Result.{IfErr-weaker, on_ok_weaker}
 use Rattle.std.specs.Prelude.{IsOk, IfErr, OnOk}
-use Rattle.pn_tablet.specs.Refusals.{Refuses}
+use Rattle.pn_tablet.specs.Steps.{Refuses}
 use Rattle.pn_apply.specs.Applying.{IsSomeOld}
-use Rattle.pn_region.specs.Logged.{refused_log}
-use Rattle.pn_region.specs.Marking.{is_memory}
-use Rattle.pn_region.specs.Rounds.{round, Leaves}
-use Rattle.pn_region.proofs.Checked.{themselves, round_passes, round_refused, left_alone, unbroken}
+use Rattle.pn_region.specs.Log.{refused_log}
+use Rattle.pn_region.specs.Rounds.{is_memory, round, Leaves}
+use Rattle.pn_region.proofs.GapLaws.{themselves, round_passes, round_refused, left_alone, unbroken}
 use Rattle.pn_region.proofs.Common.{LoggedRegion, RegionValue}
 use Rattle.pn_region.proofs.RoundEnds.{one_left}
 use Rattle.pn_region.proofs.region.Region.check.Goals as goal

@@ -2,14 +2,11 @@
 use Rattle.std.proofs.Common.{ap, subst}
 use Rattle.std.specs.Borrow.{Bor}
 use Rattle.pn_json.specs.Answers.{ShowsUnless}
-use Rattle.pn_scan.specs.declared.fault.ScanFault.TheVariants as fault
+use Rattle.pn_scan.specs.declared.view.ScanFault.TheVariants as fault
 use Rattle.pn_region.proofs.Common.{LoggedRegion, IsRegion, get_in}
 use Rattle.pn_region.proofs.ReadLaws.{get_entered}
-use Rattle.pn_region.proofs.Reading.{get_tells, refused_get, all_read}
+use Rattle.pn_region.proofs.Standing.{get_tells, get_read}
 use Rattle.pn_region.proofs.region.Region.get.Goals as goal
-
-pub returns-in-Some-clause-get : goal.returns-in-Some-clause-get
-returns-in-Some-clause-get c = λ other. refused_get c.args.self.now.state c.args.keys.now c.layout.result.now c.states.result.now c.layout.ensures.layout c.states.ensures.states c.in-Some.tablet c.in-Some.ensures
 
 pub returns-clause-get : goal.returns-clause-get
 returns-clause-get c =
@@ -17,7 +14,9 @@ returns-clause-get c =
     get_tells (λ (view : Bor LoggedRegion). view.now.state) (λ old new look looked. looked) c.args.self c.get.new.view got.0 c.args.keys.now (λ cells. cells.items) c.get.result got.1
 
 pub returns-clause-memory : goal.returns-clause-memory
-returns-clause-memory c = λ failed. all_read c.args.self.now.state c.args.keys.now c.layout.result.now c.states.result.now c.layout.ensures.layout c.states.ensures.states c.in_default.ensures
+returns-clause-memory c =
+    let got = c.get.ensures.get in
+    get_read (λ (view : Bor LoggedRegion). view.now.state) (λ old new look looked. looked) c.args.self c.get.new.view got.0 c.args.keys.now (λ cells. cells.items) c.get.result got.1 got.2
 
 pub returns-clause-entered : goal.returns-clause-entered
 returns-clause-entered c = λ is.

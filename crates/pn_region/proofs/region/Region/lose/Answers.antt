@@ -2,7 +2,7 @@
 use Rattle.std.proofs.Common.{◌≡◌, length, refl, ap, ◌∙◌, arith}
 use Rattle.pn_region.specs.Recovery.{after_loss}
 use Rattle.pn_region.proofs.Common.{step, Lose, Ok, LoggedRegion, RegionValue}
-use Rattle.pn_region.proofs.NewRegion.{tablet_count, tablet_at}
+use Rattle.pn_region.proofs.RoundSteps.{tablet_count, tablet_at}
 use Rattle.pn_region.proofs.OneTablet.{now_is, now_lawful, where_ok}
 use Rattle.pn_region.proofs.region.Region.lose.Goals as goal
 

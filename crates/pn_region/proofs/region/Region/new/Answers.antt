@@ -2,7 +2,7 @@
 use Rattle.std.proofs.Common.{refl, sym, subst, arith}
 use Rattle.pn_tablet.specs.Layouts.{IsLayout}
 use Rattle.pn_region.specs.Regions.{AreRegionMarks}
-use Rattle.pn_region.proofs.NewRegion.{new_is}
+use Rattle.pn_region.proofs.RoundSteps.{new_is}
 use Rattle.pn_region.proofs.region.Region.new.Goals as goal
 
 pub invariant_of-result : goal.invariant_of-result

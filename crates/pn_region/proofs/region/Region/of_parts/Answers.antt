@@ -1,7 +1,7 @@
 -- Parts that fit are a region.
 use Rattle.std.proofs.Common.{List, subst}
 use Rattle.pn_region.proofs.Common.{AllByRecursion, TabletStateValue, ranges, IsSound}
-use Rattle.pn_region.proofs.Sound.{parts_are_tablets}
+use Rattle.pn_region.proofs.PartMarks.{parts_are_tablets}
 use Rattle.pn_region.proofs.region.Region.of_parts.Goals as goal
 
 pub invariant_of-result : goal.invariant_of-result

@@ -2,9 +2,9 @@
 use Rattle.std.proofs.Common.{List, map, sym, ap, ◌∙◌, subst, IsTrue}
 use Rattle.pn_tablet.specs.Layouts.{IsLayout}
 use Rattle.pn_region.specs.Regions.{IsLawfulRegion}
-use Rattle.pn_region.specs.Relayouts.{made_of}
+use Rattle.pn_region.specs.Recovery.{made_of}
 use Rattle.pn_region.proofs.Common.{is_sorted, bytes_cmp, TabletStateValue, ranges, RegionValue}
-use Rattle.pn_region.proofs.Ordered.{all_rising}
+use Rattle.pn_region.proofs.TakenImages.{all_rising}
 use Rattle.pn_region.proofs.Pieces.{cells_of}
 use Rattle.pn_region.proofs.Relaying.{relaid_is}
 use Rattle.pn_region.proofs.region.Region.relayout.Goals as goal

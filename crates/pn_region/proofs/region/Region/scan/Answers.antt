@@ -2,10 +2,10 @@
 use Rattle.std.proofs.Common.{ap, subst}
 use Rattle.std.specs.Borrow.{Bor}
 use Rattle.pn_json.specs.Answers.{ShowsUnless}
-use Rattle.pn_scan.specs.declared.fault.ScanFault.TheVariants as fault
+use Rattle.pn_scan.specs.declared.view.ScanFault.TheVariants as fault
 use Rattle.pn_region.proofs.Common.{LoggedRegion, IsRegion, page_in}
 use Rattle.pn_region.proofs.ReadLaws.{scan_entered}
-use Rattle.pn_region.proofs.Reading.{page_tells, page_begins}
+use Rattle.pn_region.proofs.Standing.{page_tells, page_begins}
 use Rattle.pn_region.proofs.region.Region.scan.Goals as goal
 
 pub returns-clause-page : goal.returns-clause-page

@@ -1,7 +1,7 @@
 -- There is a tablet of each number, and it is that of the number.
 use Rattle.std.proofs.Common.{◌≡◌, length, ap, subst, arith}
 use Rattle.pn_region.proofs.Common.{slice_get, Some, LoggedRegion, RegionValue, IsRegion}
-use Rattle.pn_region.proofs.NewRegion.{tablet_count, tablet_at}
+use Rattle.pn_region.proofs.RoundSteps.{tablet_count, tablet_at}
 use Rattle.pn_region.proofs.Standing.{state_at}
 use Rattle.pn_region.proofs.region.Region.state.Goals as goal
 

@@ -1,7 +1,7 @@
 -- There is a tablet for each range.
 use Rattle.std.proofs.Common.{◌≡◌, ◌+◌, length, ap, subst}
 use Rattle.pn_region.proofs.Common.{LoggedRegion, RegionValue}
-use Rattle.pn_region.proofs.NewRegion.{tablet_count}
+use Rattle.pn_region.proofs.RoundSteps.{tablet_count}
 use Rattle.pn_region.proofs.region.Region.states.Goals as goal
 
 pub returns-clause-count : goal.returns-clause-count

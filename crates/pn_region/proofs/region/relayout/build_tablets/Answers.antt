@@ -1,8 +1,8 @@
 -- One more tablet that is made of the old ones.
 use Rattle.std.proofs.Common.{◌+◌, length, ap, ◌∙◌}
 use Rattle.std.proofs.lemmas.List.{length_push}
-use Rattle.pn_region.specs.Relayouts.{made_of}
-use Rattle.pn_region.proofs.NewRegion.{range_more}
+use Rattle.pn_region.specs.Recovery.{made_of}
+use Rattle.pn_region.proofs.RoundSteps.{range_more}
 use Rattle.pn_region.proofs.region.relayout.build_tablets.Goals as goal
 
 pub loop-tablet-preserved : goal.loop-tablet-preserved

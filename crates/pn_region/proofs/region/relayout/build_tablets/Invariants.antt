@@ -1,6 +1,6 @@
 -- The tablets so far are made of the old ones.
 use Rattle.std.proofs.Common.{◌≡◌, ◌+◌, map, length, vec_capacity}
-use Rattle.pn_region.specs.Relayouts.{made_of}
+use Rattle.pn_region.specs.Recovery.{made_of}
 use Rattle.pn_region.proofs.Common.{range_with_len, tablet_ends}
 use Rattle.pn_region.proofs.region.relayout.build_tablets.Given as goal
 

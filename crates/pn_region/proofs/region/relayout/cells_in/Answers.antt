@@ -2,7 +2,7 @@
 use Rattle.std.proofs.Common.{◌++◌, sym, ap, ◌∙◌}
 use Rattle.pn_apply.proofs.Tables.{entries_that}
 use Rattle.pn_region.proofs.Common.{Entries, in_range}
-use Rattle.pn_region.proofs.Cutting.{cells_more, cells_skipped, more_rise}
+use Rattle.pn_region.proofs.Pieces.{cells_more, cells_skipped, more_rise}
 use Rattle.pn_region.proofs.region.relayout.cells_in.Goals as goal
 use Rattle.pn_region.proofs.region.relayout.cells_in.Goals.{then-is_part+in_ok-cells, else-is_part}
 

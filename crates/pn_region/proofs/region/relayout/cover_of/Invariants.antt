@@ -1,6 +1,6 @@
 -- The cover so far is the least of those of the parts before.
 use Rattle.std.proofs.Common.{◌≡◌, take, unwrap_or, IsTrue, []}
-use Rattle.pn_region.specs.Relayouts.{parts_of}
+use Rattle.pn_region.specs.Recovery.{parts_of}
 use Rattle.pn_region.proofs.Common.{are_positions}
 use Rattle.pn_region.proofs.PartMarks.{least_so_far}
 use Rattle.pn_region.proofs.region.relayout.cover_of.Given as goal

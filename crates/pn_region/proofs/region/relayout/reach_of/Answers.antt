@@ -2,7 +2,7 @@
 use Rattle.std.proofs.Common.{◌+◌, List, take, IsTrue, sym, ap, ◌∙◌, subst}
 use Rattle.pn_join.proofs.MarksFacts.{are_positions-raised_marks}
 use Rattle.pn_tablet.specs.Tablets.{TabletStateValue}
-use Rattle.pn_region.specs.Relayouts.{parts_of, least_cover, greatest_reach}
+use Rattle.pn_region.specs.Recovery.{parts_of, least_cover, greatest_reach}
 use Rattle.pn_region.proofs.Common.{Positions, Reaches, are_positions}
 use Rattle.pn_region.proofs.PartMarks.{reach_step, reached_step, skipped}
 use Rattle.pn_region.proofs.region.relayout.reach_of.Goals as goal

@@ -1,6 +1,6 @@
 -- The reach so far is the greatest of those of the parts before, and reaches the least of their covers.
 use Rattle.std.proofs.Common.{◌≡◌, take, IsTrue}
-use Rattle.pn_region.specs.Relayouts.{parts_of, least_cover, greatest_reach}
+use Rattle.pn_region.specs.Recovery.{parts_of, least_cover, greatest_reach}
 use Rattle.pn_region.proofs.Common.{Reaches, are_positions}
 use Rattle.pn_region.proofs.region.relayout.reach_of.Given as goal
 

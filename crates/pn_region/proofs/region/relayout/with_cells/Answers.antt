@@ -1,7 +1,7 @@
 -- The slice of all that lie in the range is they themselves.
 use Rattle.std.proofs.Common.{◌++◌, ap, ◌∙◌, filter}
 use Rattle.pn_region.proofs.Common.{Entries, in_range}
-use Rattle.pn_region.proofs.Cutting.{whole_slice}
+use Rattle.pn_region.proofs.Pieces.{whole_slice}
 use Rattle.pn_region.proofs.region.relayout.with_cells.Goals as goal
 
 pub returns : goal.returns

@@ -2,12 +2,11 @@
 use Rattle.std.proofs.Common.{◌<◌, ◌*◌, [], ◌++◌, length, max, Option, Result, Err, refl, sym, ap, ◌∙◌, subst, arith}
 use Rattle.std.specs.Prelude.{IfSome}
 use Rattle.std.proofs.lemmas.Result.{err_from_is_err_and}
-use Rattle.pn_scan.specs.Paging.{work_left, rows_to_come, IsOnPage, PagesTo}
-use Rattle.pn_scan.specs.Parts.{LooksAtMost, PartValue}
+use Rattle.pn_scan.specs.Paging.{work_left, rows_to_come, IsOnPage, PagesTo, LooksAtMost, PartValue}
 use Rattle.pn_scan.specs.WalkValues.{PageWalkValue, PartWalkValue}
-use Rattle.pn_scan.specs.declared.fault.ScanFault.{ScanFault}
+use Rattle.pn_scan.specs.declared.view.ScanFault.{ScanFault}
 use Rattle.pn_scan.specs.declared.page_walk.PageStep.{PageStep}
-use Rattle.pn_scan.proofs.Counted.{counted_on}
+use Rattle.pn_scan.proofs.Walking.{counted_on}
 use Rattle.pn_scan.proofs.Paging.{held, gone_on, page_without_memory}
 use Rattle.pn_scan.proofs.page_walk.PageWalk.go_on.Goals as goal
 

@@ -1,6 +1,6 @@
 -- The values keep the limits where the conditions do.
 use Rattle.std.proofs.Common.{sym, ◌∙◌}
-use Rattle.pn_scan.proofs.ConditionLists.{fit_all}
+use Rattle.pn_scan.proofs.Conditions.{fit_all}
 use Rattle.pn_scan.proofs.unchecked_conditions.UncheckedConditions.fit.Goals as goal
 
 pub returns : goal.returns

@@ -1,7 +1,7 @@
 -- The walk goes on over what is left.
 use Rattle.std.proofs.Common.{◌≤◌, ◌*◌, ◌^◌, suc, drop, length, length-drop, max, ap, ◌∙◌, arith}
-use Rattle.pn_record.specs.CellMap.{Entries}
-use Rattle.pn_scan.specs.Parts.{part_work, part_left, walk_answer}
+use Rattle.pn_record.specs.Cells.{Entries}
+use Rattle.pn_scan.specs.Paging.{part_work, part_left, walk_answer}
 use Rattle.pn_scan.specs.WalkValues.{PartWalkValue}
 use Rattle.pn_scan.proofs.Looking.{nearer_part, same_answer}
 use Rattle.pn_scan.proofs.walk.PartWalk.go_on.Goals as goal

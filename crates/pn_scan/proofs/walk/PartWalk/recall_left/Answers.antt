@@ -1,6 +1,6 @@
 -- There are fewer than 2 ^ 64 records.
 use Rattle.std.proofs.Common.{length-drop, ap, arith}
-use Rattle.pn_scan.specs.Parts.{part_left}
+use Rattle.pn_scan.specs.Paging.{part_left}
 use Rattle.pn_scan.proofs.walk.PartWalk.recall_left.Goals as goal
 
 pub returns : goal.returns

@@ -1,5 +1,5 @@
 -- The tablets are those of the ranges between the bounds.
-use Rattle.pn_region.proofs.NewRegion.{tablet_count}
+use Rattle.pn_region.proofs.RoundSteps.{tablet_count}
 use Rattle.pn_live.specs.LiveRegions.{core}
 use Rattle.pn_serve.proofs.control.commands.recall_tablet_count.Goals as goal
 

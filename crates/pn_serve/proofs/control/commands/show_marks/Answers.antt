@@ -1,8 +1,8 @@
 -- The marks are shown.
 use Rattle.std.proofs.Common.{refl, sym, ap}
-use Rattle.pn_json.specs.Lines.{line_of}
+use Rattle.pn_json.specs.Tokens.{line_of}
 use Rattle.pn_join.specs.Marks.{Positions}
-use Rattle.pn_protocol.specs.Reply.Tablets.{marks_reply_data}
+use Rattle.pn_protocol.specs.Reply.Short.{marks_reply_data}
 use Rattle.pn_serve.specs.Control.Commands.{logged}
 use Rattle.pn_serve.specs.declared.control.commands.WriterCommand.TheVariants as commands
 use Rattle.pn_serve.specs.Machine.Outcomes.{machine_over, reply_turn}

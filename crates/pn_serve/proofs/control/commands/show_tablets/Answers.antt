@@ -1,8 +1,8 @@
 -- The tablets are shown.
 use Rattle.std.proofs.Common.{refl}
-use Rattle.pn_json.specs.Lines.{line_of}
+use Rattle.pn_json.specs.Tokens.{line_of}
 use Rattle.pn_live.specs.LiveRegions.{core}
-use Rattle.pn_protocol.specs.Reply.Tablets.{tablets_data}
+use Rattle.pn_protocol.specs.Reply.Short.{tablets_data}
 use Rattle.pn_serve.specs.declared.control.commands.WriterCommand.TheVariants as commands
 use Rattle.pn_serve.proofs.Obeying.{shows}
 use Rattle.pn_serve.proofs.control.commands.show_tablets.Goals as goal

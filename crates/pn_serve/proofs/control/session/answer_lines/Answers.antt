@@ -1,11 +1,10 @@
 -- A run begins, ends, or is followed by another.
 use Rattle.std.proofs.Common.{sym, subst}
 use Rattle.std.specs.Prelude.{Result}
-use Rattle.pn_lines.specs.Ends.{HasEnded, start_at}
+use Rattle.pn_lines.specs.Driving.{HasEnded, start_at}
 use Rattle.pn_lines.specs.declared.driver.LinesFault.{LinesFault}
 use Rattle.pn_lines.specs.declared.engine.Counts.{Counts}
-use Rattle.pn_serve.specs.Control.Ends.{ControlEnds}
-use Rattle.pn_serve.specs.Control.Handling.{controls}
+use Rattle.pn_serve.specs.Control.Lines.{ControlEnds, controls}
 use Rattle.pn_serve.specs.declared.script.RunFault.{RunFault}
 use Rattle.pn_serve.specs.declared.script.TheConstants.{MAX_LINES}
 use Rattle.pn_serve.proofs.ControlEnds.{more_so_far, none_so_far, session_ends, session_shut}

@@ -1,6 +1,6 @@
 -- What was answered so far, and the reader knows no less.
-use Rattle.pn_lines.specs.Ends.{start_at}
-use Rattle.pn_serve.specs.Session.Knowing.{KnowsNoLess}
+use Rattle.pn_lines.specs.Driving.{start_at}
+use Rattle.pn_serve.specs.Session.Resuming.{KnowsNoLess}
 use Rattle.pn_serve.proofs.ControlEnds.{SoFar}
 use Rattle.pn_serve.proofs.control.session.answer_lines.Given as goal
 

@@ -2,7 +2,7 @@
 use Rattle.std.proofs.Common.{refl}
 use Rattle.pn_region.specs.Reads.{get_in}
 use Rattle.pn_protocol.specs.Command.Meaning.{get}
-use Rattle.pn_protocol.specs.Reply.Record.{get_data}
+use Rattle.pn_protocol.specs.Reply.Records.{get_data}
 use Rattle.pn_serve.proofs.Turns.{turned_shown}
 use Rattle.pn_serve.proofs.machine.lookups.get.Goals as goal
 

@@ -3,7 +3,7 @@ use Rattle.std.proofs.Common.{refl}
 use Rattle.pn_scan.specs.Views.{cell_at}
 use Rattle.pn_region.specs.Reads.{look_for, read_in}
 use Rattle.pn_protocol.specs.Command.Meaning.{read}
-use Rattle.pn_protocol.specs.Reply.Record.{read_data}
+use Rattle.pn_protocol.specs.Reply.Records.{read_data}
 use Rattle.pn_serve.proofs.Turns.{turned_shown, read_shows}
 use Rattle.pn_serve.proofs.machine.lookups.read.Goals as goal
 

@@ -2,7 +2,7 @@
 use Rattle.std.proofs.Common.{refl}
 use Rattle.pn_region.specs.Reads.{page_in}
 use Rattle.pn_protocol.specs.Command.Meaning.{scan}
-use Rattle.pn_protocol.specs.Reply.Scan.{scan_data}
+use Rattle.pn_protocol.specs.Reply.Records.{scan_data}
 use Rattle.pn_serve.proofs.Turns.{turned_shown}
 use Rattle.pn_serve.proofs.machine.lookups.scan.Goals as goal
 

@@ -1,9 +1,9 @@
 -- A number of no tablet, or the copy of one.
 use Rattle.std.proofs.Common.{◌+◌, ◌≤◌, length, ap, arith, slice_get}
-use Rattle.pn_tablet.specs.Copying.{copy_of, is_memory}
-use Rattle.pn_tablet.specs.Refusals.{Answers}
+use Rattle.pn_tablet.specs.Copies.{copy_of, is_memory}
+use Rattle.pn_tablet.specs.Steps.{Answers}
 use Rattle.pn_tablet.specs.Tablets.{TabletStateValue}
-use Rattle.pn_serve.proofs.Recovering.{no_tablet, copied_nothing, tablet_there, answered_there, at_some}
+use Rattle.pn_serve.proofs.Relaying.{no_tablet, copied_nothing, tablet_there, answered_there, at_some}
 use Rattle.pn_serve.proofs.machine.tablets.copy_tablet.Goals as goal
 
 pub returns-then-tablet-count : goal.returns-then-tablet-count

@@ -1,6 +1,6 @@
 -- A number of no tablet, or the loss of one.
 use Rattle.std.proofs.Common.{◌+◌, ◌≤◌, length, ap, arith}
-use Rattle.pn_serve.proofs.Recovering.{no_tablet, lost_nothing, tablet_there, lost_there}
+use Rattle.pn_serve.proofs.Relaying.{no_tablet, lost_nothing, tablet_there, lost_there}
 use Rattle.pn_serve.proofs.machine.tablets.lose_tablet.Goals as goal
 
 pub returns-then-tablet-count : goal.returns-then-tablet-count

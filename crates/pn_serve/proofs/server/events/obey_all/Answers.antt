@@ -2,7 +2,7 @@
 use Rattle.std.proofs.Common.{[], None}
 use Rattle.pn_serve.specs.declared.server.mailboxes.AtFault.TheVariants.{GoOn}
 use Rattle.pn_serve.proofs.EventsRead.{none_told}
-use Rattle.pn_serve.proofs.RisingMarks.{reaches_itself, told_reaches}
+use Rattle.pn_serve.proofs.EventsDone.{reaches_itself, told_reaches}
 use Rattle.pn_serve.proofs.server.events.obey_all.Goals as goal
 
 pub returns-in-None-clause-told : goal.returns-in-None-clause-told

@@ -2,13 +2,13 @@
 use Rattle.std.proofs.Common.{◌≡◌, ◌≢◌, [], None, Some, map, refl, sym, ap, subst, ◌∙◌}
 use Rattle.std.specs.Prelude.{Ok}
 use Rattle.pn_live.specs.LiveRegions.{LiveRegionValue}
-use Rattle.pn_serve.specs.Server.Sent.{IsSent}
-use Rattle.pn_serve.specs.Server.Tries.{StopsAt, TakesRound, waiting_value}
+use Rattle.pn_serve.specs.Server.Publishers.{IsSent}
+use Rattle.pn_serve.specs.Server.Rounds.{StopsAt, TakesRound, waiting_value}
 use Rattle.pn_serve.specs.declared.server.events.ReadingEnd.TheVariants.{StreamsEnded, Stopped}
 use Rattle.pn_serve.specs.declared.server.mailboxes.AtFault.{AtFault}
 use Rattle.pn_serve.specs.declared.server.mailboxes.StreamMailbox.{StreamMailbox}
 use Rattle.pn_serve.proofs.EventsRead.{DoesRounds, all_read, as_answer, as_fault, does_round, more_told, none_yet, nothing_yet, one_more, one_round, ran_on, ran_up_to, read_up_to, such_input, such_waits}
-use Rattle.pn_serve.proofs.RisingMarks.{waits_on}
+use Rattle.pn_serve.proofs.EventsDone.{waits_on}
 use Rattle.pn_serve.proofs.RoundsRead.{no_names, none_waits}
 use Rattle.pn_serve.proofs.server.events.run_rounds.Goals as goal
 

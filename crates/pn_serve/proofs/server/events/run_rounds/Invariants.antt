@@ -2,9 +2,8 @@
 use Rattle.std.proofs.Common.{◌≡◌, map, None, IfSome}
 use Rattle.std.specs.List.{All}
 use Rattle.pn_live.specs.LiveRegions.{tablets_in}
-use Rattle.pn_serve.specs.Server.Rounds.{Continues}
-use Rattle.pn_serve.specs.Server.Sent.{IsSent}
-use Rattle.pn_serve.specs.Server.Tries.{waiting_value}
+use Rattle.pn_serve.specs.Server.Rounds.{Continues, waiting_value}
+use Rattle.pn_serve.specs.Server.Publishers.{IsSent}
 use Rattle.pn_serve.proofs.EventsRead.{DoesRounds, DoneSoFar}
 use Rattle.pn_serve.proofs.server.events.run_rounds.Given as goal
 

@@ -1,5 +1,5 @@
--- What the next writer's source has left is of that writer.
-use Rattle.pn_serve.proofs.SentRead.{begun}
+-- What the next publisher's source has left is of that publisher.
+use Rattle.pn_serve.proofs.PublishersRead.{begun}
 use Rattle.pn_serve.proofs.server.reporting.next_input.Goals as goal
 
 pub returns-in-Some-clause-sent : goal.returns-in-Some-clause-sent

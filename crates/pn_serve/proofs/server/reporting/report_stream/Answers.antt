@@ -1,5 +1,5 @@
 -- The last report has no messages.
-use Rattle.pn_serve.proofs.SentRead.{no_messages_sent}
+use Rattle.pn_serve.proofs.PublishersRead.{no_messages_sent}
 use Rattle.pn_serve.proofs.server.reporting.report_stream.Goals as goal
 
 pub leave-requires : goal.leave-requires

@@ -2,10 +2,9 @@
 use Rattle.std.proofs.Common.{◌≡◌, ◌≤◌, ◌++◌, length, map, vec_len, vec_capacity}
 use Rattle.std.specs.List.{All}
 use Rattle.std.specs.Vec.Iter.{into_iter_items}
-use Rattle.pn_serve.specs.Server.Gathering.{IsInputOf, value_of}
 use Rattle.pn_serve.specs.Server.Messages.{FitRound}
-use Rattle.pn_serve.specs.Server.Rounds.{Continues}
-use Rattle.pn_serve.specs.Server.Sent.{IsSent}
+use Rattle.pn_serve.specs.Server.Rounds.{IsInputOf, value_of, Continues}
+use Rattle.pn_serve.specs.Server.Publishers.{IsSent}
 use Rattle.pn_serve.proofs.server.rounds.gather.Given as goal
 
 abbrev pub invariant-loop-stream : goal.invariant-loop-stream

@@ -1,7 +1,7 @@
 -- The input of a round that memory ran out for waits.
 use Rattle.std.proofs.Common.{map}
-use Rattle.pn_serve.specs.Server.Sent.{IsSent}
-use Rattle.pn_serve.specs.Server.Tries.{waiting_value}
+use Rattle.pn_serve.specs.Server.Publishers.{IsSent}
+use Rattle.pn_serve.specs.Server.Rounds.{waiting_value}
 use Rattle.pn_serve.specs.declared.server.mailboxes.StreamMailbox.{StreamMailbox}
 use Rattle.pn_serve.proofs.EventsRead.{waits_again}
 use Rattle.pn_serve.proofs.server.rounds.take_round.Goals as goal

@@ -1,7 +1,7 @@
 -- A session's listener and reader go to its thread, and the reader comes back.
 use denote.Param.Send.{sendable}
 use Rattle.std.proofs.Crossing.{crosses}
-use Rattle.pn_live.proofs.Crossing.Readers.{reader_send}
+use Rattle.pn_live.proofs.Crossing.{reader_send}
 use Rattle.pn_serve.proofs.server.session_threads.start_session.Goals as goal
 
 pub spawn_with-requires-send-F : goal.spawn_with-requires-send-F

@@ -2,10 +2,9 @@
 use Rattle.std.proofs.Common.{[], ◌∷◌, ◌++◌, map, sym, ap, ◌∙◌, subst, append_assoc, All, Ok}
 use Rattle.std.specs.Vec.Iter.{into_iter_items}
 use Rattle.std.proofs.lemmas.List.Elements.{All-push}
-use Rattle.pn_serve.specs.Server.Faults.{NamesOne, names_of}
-use Rattle.pn_serve.specs.Server.Whole.{IsTakenWhole}
-use Rattle.pn_serve.proofs.Passing.{map_push, passed_on}
-use Rattle.pn_serve.proofs.StreamsRead.{named_by, taken_by, is_one}
+use Rattle.pn_serve.specs.Server.Reports.{NamesOne, names_of}
+use Rattle.pn_serve.specs.Server.Publishers.{IsTakenWhole}
+use Rattle.pn_serve.proofs.Gatherings.{map_push, passed_on, named_by, taken_by, is_one}
 use Rattle.pn_serve.proofs.server.stream_threads.join_streams.Goals as goal
 
 pub returns-in_err-check_whole-clause-named : goal.returns-in_err-check_whole-clause-named

@@ -1,7 +1,7 @@
 -- Each stream so far was read to its end, and the marks reach its last message.
 use Rattle.std.proofs.Common.{◌≡◌, ◌++◌, map, All}
 use Rattle.std.specs.Vec.Iter.{into_iter_items}
-use Rattle.pn_serve.specs.Server.Whole.{IsTakenWhole}
+use Rattle.pn_serve.specs.Server.Publishers.{IsTakenWhole}
 use Rattle.pn_serve.proofs.server.stream_threads.join_streams.Given as goal
 
 abbrev pub invariant-loop-thread : goal.invariant-loop-thread

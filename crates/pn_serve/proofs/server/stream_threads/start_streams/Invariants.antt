@@ -1,6 +1,6 @@
 -- There is a thread and a mailbox for each stream so far.
 use Rattle.std.proofs.Common.{◌≡◌, map}
-use Rattle.pn_serve.specs.Server.Faults.{names_of}
+use Rattle.pn_serve.specs.Server.Reports.{names_of}
 use Rattle.pn_serve.specs.declared.server.mailboxes.AtFault.TheVariants.{Stop}
 use Rattle.pn_serve.proofs.server.stream_threads.start_streams.Given as goal
 

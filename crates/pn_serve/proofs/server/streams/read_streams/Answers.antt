@@ -2,21 +2,19 @@
 use Rattle.std.proofs.Common.{◌≡◌, ℕ, List, refl, sym, ◌∙◌, subst}
 use Rattle.std.proofs.lemmas.Result.{err_from_is_err_and}
 use Rattle.std.specs.Prelude.{IsErrAnd, Result, Ok, Err}
-use Rattle.pn_stream.specs.Brokers.{IsHonest}
-use Rattle.pn_stream.specs.Positions.{DeliveryValue}
+use Rattle.pn_stream.specs.Brokers.{IsHonest, DeliveryValue}
 use Rattle.pn_live.specs.LiveRegions.{LiveRegionValue}
-use Rattle.pn_serve.specs.Server.Events.{ReadsBesides, RunsEvents}
-use Rattle.pn_serve.specs.Server.Reading.{ReadsStreams, RunsRounds}
-use Rattle.pn_serve.specs.Server.Sent.{IsSent}
+use Rattle.pn_serve.specs.Server.Events.{ReadsBesides, RunsEvents, ReadsStreams, RunsRounds}
+use Rattle.pn_serve.specs.Server.Publishers.{IsSent}
 use Rattle.pn_serve.specs.declared.server.events.ReadingEnd.{ReadingEnd}
-use Rattle.pn_serve.specs.declared.server.fault.ServeFault.{ServeFault}
-use Rattle.pn_serve.specs.declared.server.fault.ServeFault.TheVariants.{Start, Stream, Round, Close, Write}
+use Rattle.pn_serve.specs.declared.server.fault_log.ServeFault.{ServeFault}
+use Rattle.pn_serve.specs.declared.server.fault_log.ServeFault.TheVariants.{Start, Stream, Round, Close, Write}
 use Rattle.pn_serve.specs.declared.server.mailboxes.AtFault.{AtFault}
 use Rattle.pn_serve.specs.declared.server.mailboxes.AtFault.TheVariants.{GoOn}
 use Rattle.pn_serve.proofs.EventsRead.{as_besides}
 use Rattle.pn_serve.proofs.RoundsRead.{of_rounds}
 use Rattle.pn_serve.proofs.SentEvents.{besides_on, streams_on}
-use Rattle.pn_serve.proofs.SentRead.{sent_is_honest}
+use Rattle.pn_serve.proofs.PublishersRead.{sent_is_honest}
 use Rattle.pn_serve.proofs.server.streams.read_streams.Goals as goal
 
 as_streams : (P : DeliveryValue → Type 0) (names : List (List ℕ)) (old new : LiveRegionValue) (read : Result ReadingEnd ServeFault) → RunsRounds P GoOn names old new read → ReadsStreams P names old new read

@@ -1,8 +1,7 @@
 -- The round is of the input whose cells were finished.
 use Rattle.std.proofs.Common.{sym, subst}
 use Rattle.std.specs.List.{All}
-use Rattle.pn_serve.specs.Server.Rounds.{RoundInputValue, Continues}
-use Rattle.pn_serve.specs.Server.Tries.{RunsInput}
+use Rattle.pn_serve.specs.Server.Rounds.{RoundInputValue, Continues, RunsInput}
 use Rattle.pn_serve.proofs.server.tries.run_input.Goals as goal
 
 pub run_finished-requires-clause-continues : goal.run_finished-requires-clause-continues

@@ -1,9 +1,8 @@
 -- The input is taken as a round.
 use Rattle.std.proofs.Common.{List, refl, subst}
 use Rattle.std.specs.Prelude.{OnOk, OnErr}
-use Rattle.pn_stream.specs.Positions.{DeliveryValue}
-use Rattle.pn_serve.specs.Server.Gathering.{value_of}
-use Rattle.pn_serve.specs.Server.Rounds.{IsRoundRefused, IsRoundTaken}
+use Rattle.pn_stream.specs.Brokers.{DeliveryValue}
+use Rattle.pn_serve.specs.Server.Rounds.{value_of, IsRoundRefused, IsRoundTaken}
 use Rattle.pn_serve.specs.declared.server.mailboxes.AtFault.TheVariants.{Stop}
 use Rattle.pn_serve.proofs.RoundsRead.{takes}
 use Rattle.pn_serve.proofs.server.tries.run_round.Goals as goal

@@ -3,8 +3,8 @@ use Rattle.std.proofs.Common.{sym, subst}
 use Rattle.pn_scan.specs.Paging.{Stays}
 use Rattle.pn_protocol.specs.declared.command.Command.{Command}
 use Rattle.pn_protocol.specs.Command.Meaning.{command_value}
-use Rattle.pn_serve.specs.declared.machine.line_answers.Answer.TheVariants.{Going as Begun}
-use Rattle.pn_serve.specs.Session.Looking.{LooksTo}
+use Rattle.pn_serve.specs.declared.machine.line_answers.LineOutcome.TheVariants.{Pending as Begun}
+use Rattle.pn_serve.specs.Session.Resuming.{LooksTo}
 use Rattle.pn_serve.proofs.GoingOn.{begins_keys, begins_page}
 use Rattle.pn_serve.proofs.Knowing.{stays_preorder}
 use Rattle.pn_serve.proofs.sessions.lookups.begin.Goals as goal

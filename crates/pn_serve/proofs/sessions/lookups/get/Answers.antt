@@ -1,6 +1,6 @@
 -- What the looks found is shown.
 use Rattle.std.proofs.Common.{refl}
-use Rattle.pn_protocol.specs.Reply.Record.{get_data}
+use Rattle.pn_protocol.specs.Reply.Records.{get_data}
 use Rattle.pn_serve.proofs.Lookups.{seen_as, shows_as, got_as}
 use Rattle.pn_serve.proofs.sessions.lookups.get.Goals as goal
 

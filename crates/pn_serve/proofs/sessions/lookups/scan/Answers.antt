@@ -1,6 +1,6 @@
 -- What the looks found is shown.
 use Rattle.std.proofs.Common.{refl}
-use Rattle.pn_protocol.specs.Reply.Scan.{scan_data}
+use Rattle.pn_protocol.specs.Reply.Records.{scan_data}
 use Rattle.pn_serve.proofs.Lookups.{seen_as, shows_as, scanned_as}
 use Rattle.pn_serve.proofs.sessions.lookups.scan.Goals as goal
 

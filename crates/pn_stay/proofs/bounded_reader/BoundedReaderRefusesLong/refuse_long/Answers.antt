@@ -3,9 +3,9 @@ use Rattle.std.proofs.Common.{subst}
 use Rattle.pn_lines.specs.Answers.{reply_of}
 use Rattle.pn_lines.specs.Handling.{Answers}
 use Rattle.pn_live.specs.Readers.{LiveReaderValue}
-use Rattle.pn_serve.specs.Lines.Handled.{pieces_left}
-use Rattle.pn_serve.specs.Proofs.Steady.{knows_itself}
-use Rattle.pn_serve.specs.Session.Knowing.{KnowsNoLess}
+use Rattle.pn_serve.specs.Lines.{pieces_left}
+use Rattle.pn_serve.specs.Proofs.{knows_itself}
+use Rattle.pn_serve.specs.Session.Resuming.{KnowsNoLess}
 use Rattle.pn_stay.specs.Looks.{session_reads}
 use Rattle.pn_stay.proofs.bounded_reader.BoundedReaderRefusesLong.refuse_long.Goals as goal
 

@@ -2,7 +2,7 @@
 use Rattle.std.proofs.Common.{◌≤◌, length, ⊎_elim, arith}
 use Rattle.std.proofs.lemmas.Bool.{cases_lt}
 use Rattle.pn_stay.specs.Loops.{ending_at}
-use Rattle.pn_stay.proofs.Endings.{ending_past, ends_more, ends_none, rest_less}
+use Rattle.pn_stay.proofs.Keys.{ending_past, ends_more, none_ending as ends_none, inputs_left as rest_less}
 use Rattle.pn_stay.proofs.event_loop.EventLoop.end_all_inputs.Goals as goal
 
 pub inputs-preserved : goal.inputs-preserved

@@ -2,9 +2,8 @@
 use Rattle.std.proofs.Common.{◌≤◌, length, ⊎_elim, arith}
 use Rattle.std.proofs.lemmas.Bool.{cases_lt}
 use Rattle.pn_stay.specs.Unread.{EndsDeaf}
-use Rattle.pn_stay.specs.UnreadClients.{unread_at}
-use Rattle.pn_stay.proofs.Keys.{done_more, rest_less}
-use Rattle.pn_stay.proofs.UnreadClients.{deaf_none, unread_past}
+use Rattle.pn_stay.specs.Loops.{unread_at}
+use Rattle.pn_stay.proofs.Keys.{done_more, rest_less, deaf_none, unread_past}
 use Rattle.pn_stay.proofs.event_loop.EventLoop.end_deaf.Goals as goal
 
 pub clients-preserved : goal.clients-preserved
@@ -14,7 +13,8 @@ clients-preserved g c =
     let before = unread_at was.self.connections in
     let after = unread_at c.end_deaf_at.new.self.connections in
     record {
-      done = done_more EndsDeaf was.key first before after c.end_deaf_at.ensures.others was.invariant.done (was.invariant.rest was.key (omega arith)) c.end_deaf_at.ensures.here;
+      done = done_more EndsDeaf was.key first before after c.end_deaf_at.ensures.others was.invariant.done (was.invariant.rest was.key (omega arith))
+          c.end_deaf_at.ensures.here;
       rest = rest_less EndsDeaf was.key first before after c.end_deaf_at.ensures.others was.invariant.rest;
     }
 

@@ -1,7 +1,7 @@
 -- The quarter has ended for the keys below, and not yet for the others.
 use Rattle.std.proofs.Common.{◌≡◌, ℕ, ◌<◌, ◌≤◌}
 use Rattle.pn_stay.specs.Unread.{EndsDeaf}
-use Rattle.pn_stay.specs.UnreadClients.{unread_at}
+use Rattle.pn_stay.specs.Loops.{unread_at}
 use Rattle.pn_stay.proofs.event_loop.EventLoop.end_deaf.Given as goal
 
 abbrev pub invariant-clients : goal.invariant-clients

@@ -2,7 +2,7 @@
 use Rattle.std.proofs.Common.{inl, ⊎_elim, arith}
 use Rattle.std.proofs.lemmas.Bool.{cases_lt}
 use Rattle.pn_stay.specs.Unread.{EndsAt}
-use Rattle.pn_stay.specs.UnreadClients.{unread_at}
+use Rattle.pn_stay.specs.Loops.{unread_at}
 use Rattle.pn_stay.proofs.Keys.{done_more, rest_less}
 use Rattle.pn_stay.proofs.event_loop.EventLoop.end_longest.Goals as goal
 
@@ -13,7 +13,8 @@ clients-preserved g c =
     let before = unread_at was.self.connections in
     let after = unread_at c.end_longest_at.new.self.connections in
     record {
-      done = done_more (EndsAt c.args.longest) was.key first before after c.end_longest_at.ensures.others was.invariant.done (was.invariant.rest was.key (omega arith)) c.end_longest_at.ensures.here;
+      done = done_more (EndsAt c.args.longest) was.key first before after c.end_longest_at.ensures.others was.invariant.done
+          (was.invariant.rest was.key (omega arith)) c.end_longest_at.ensures.here;
       rest = rest_less (EndsAt c.args.longest) was.key first before after c.end_longest_at.ensures.others was.invariant.rest;
     }
 

@@ -1,7 +1,7 @@
 -- Clients below were ended or not, and the others are as they were.
 use Rattle.std.proofs.Common.{◌≡◌, ℕ, ◌<◌, ◌≤◌}
 use Rattle.pn_stay.specs.Unread.{EndsAt}
-use Rattle.pn_stay.specs.UnreadClients.{unread_at}
+use Rattle.pn_stay.specs.Loops.{unread_at}
 use Rattle.pn_stay.proofs.event_loop.EventLoop.end_longest.Given as goal
 
 abbrev pub invariant-clients : goal.invariant-clients

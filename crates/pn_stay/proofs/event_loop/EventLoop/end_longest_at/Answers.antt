@@ -1,6 +1,6 @@
 -- The client is ended that took nothing for longest, and the others are as they were.
 use Rattle.std.proofs.Common.{ap, inl, inr, refl, sym, ◌∙◌}
-use Rattle.pn_stay.specs.UnreadClients.{unread_in}
+use Rattle.pn_stay.specs.Loops.{unread_in}
 use Rattle.pn_stay.proofs.event_loop.EventLoop.end_longest_at.Goals as goal
 
 pub returns-then-is_ended-clause-here : goal.returns-then-is_ended-clause-here

@@ -1,6 +1,6 @@
 -- A client that is ended is not there, and the others are as they were.
 use Rattle.std.proofs.Common.{ap}
-use Rattle.pn_stay.specs.UnreadClients.{unread_in}
+use Rattle.pn_stay.specs.Loops.{unread_in}
 use Rattle.pn_stay.proofs.event_loop.EventLoop.end_or_try.Goals as goal
 
 pub returns-then-is_deaf-clause-deaf : goal.returns-then-is_deaf-clause-deaf

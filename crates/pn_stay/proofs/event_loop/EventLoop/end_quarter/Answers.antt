@@ -2,7 +2,7 @@
 use Rattle.std.proofs.Common.{◌≤◌, length, ⊎_elim, arith}
 use Rattle.std.proofs.lemmas.Bool.{cases_lt}
 use Rattle.pn_stay.specs.Loops.{idle_at}
-use Rattle.pn_stay.proofs.Quarters.{idle_past, ends_none, ended_more, rest_less}
+use Rattle.pn_stay.proofs.Keys.{idle_past, none_in_quarter as ends_none, ended_more, quarters_left as rest_less}
 use Rattle.pn_stay.proofs.event_loop.EventLoop.end_quarter.Goals as goal
 
 pub quarters-preserved : goal.quarters-preserved
@@ -12,7 +12,8 @@ quarters-preserved g c =
     let before = idle_at was.self.connections in
     let after = idle_at c.end_quarter_at.new.self.connections in
     record {
-      done = ended_more c.args.idle was.key first before after c.end_quarter_at.ensures.others was.invariant.done (was.invariant.rest was.key (omega arith)) c.end_quarter_at.ensures.here;
+      done = ended_more c.args.idle was.key first before after c.end_quarter_at.ensures.others was.invariant.done (was.invariant.rest was.key (omega arith))
+          c.end_quarter_at.ensures.here;
       rest = rest_less c.args.idle was.key first before after c.end_quarter_at.ensures.others was.invariant.rest;
     }
 

@@ -1,6 +1,6 @@
 -- The longest of the keys below.
 use Rattle.std.proofs.Common.{◌≡◌, ◌⊎◌, ℕ, ◌<◌, ◌≤◌}
-use Rattle.pn_stay.specs.UnreadClients.{quiet_at}
+use Rattle.pn_stay.specs.Loops.{quiet_at}
 use Rattle.pn_stay.proofs.event_loop.unread.longest_quiet.Given as goal
 
 abbrev pub invariant-clients : goal.invariant-clients

@@ -1,13 +1,11 @@
--- What was read is honest where writers are.
+-- What was read is honest where publishers are.
 use Rattle.std.proofs.Common.{◌≡◌, ℕ, false, List, Option, None, Some, Result, refl, ap, ◌∙◌, subst}
 use Rattle.std.specs.Prelude.{is_some}
-use Rattle.pn_stream.specs.Brokers.{IsHonest}
-use Rattle.pn_stream.specs.Positions.{DeliveryValue}
+use Rattle.pn_stream.specs.Brokers.{IsHonest, DeliveryValue}
 use Rattle.pn_live.specs.LiveRegions.{LiveRegionValue}
-use Rattle.pn_serve.specs.Server.Events.{ReadsBesides}
-use Rattle.pn_serve.specs.Server.Reading.{ReadsStreams}
+use Rattle.pn_serve.specs.Server.Events.{ReadsBesides, ReadsStreams}
 use Rattle.pn_serve.specs.declared.server.events.ReadingEnd.{ReadingEnd}
-use Rattle.pn_serve.specs.declared.server.fault.ServeFault.{ServeFault}
+use Rattle.pn_serve.specs.declared.server.fault_log.ServeFault.{ServeFault}
 use Rattle.pn_stay.specs.Servers.{ServerValue}
 use Rattle.pn_stay.proofs.server.StayingServer.read_streams.Goals as goal
 

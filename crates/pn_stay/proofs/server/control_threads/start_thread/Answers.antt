@@ -1,7 +1,7 @@
 -- A control thread begins with its reader.
 use denote.Param.Send.{sendable}
 use Rattle.std.proofs.Crossing.{crosses}
-use Rattle.pn_live.proofs.Crossing.Readers.{reader_send}
+use Rattle.pn_live.proofs.Crossing.{reader_send}
 use Rattle.pn_stay.proofs.Crossing.{control_send}
 use Rattle.pn_stay.proofs.server.control_threads.start_thread.Goals as goal
 

@@ -2,7 +2,7 @@
 use Rattle.std.proofs.Common.{◌≡◌, ◌+◌, ◌≤◌, vec_len, vec_capacity, All}
 use Rattle.pn_live.specs.LiveRegions.{tablets_in}
 use Rattle.pn_live.specs.Readers.{tablets_of}
-use Rattle.pn_serve.specs.Server.Sessions.{AllRead}
+use Rattle.pn_serve.specs.Server.Events.{AllRead}
 use Rattle.pn_stay.proofs.server.threads.start_threads.Given as goal
 
 abbrev pub invariant-loop-reader : goal.invariant-loop-reader

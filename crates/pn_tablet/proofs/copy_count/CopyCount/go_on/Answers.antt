@@ -4,7 +4,7 @@ use Rattle.std.specs.Prelude.{min, Err}
 use Rattle.pn_record.specs.Cells.{spell}
 use Rattle.pn_tablet.specs.Copies.{TabletCopyValue}
 use Rattle.pn_tablet.specs.CopyCounts.{CountsOn}
-use Rattle.pn_tablet.specs.CopyMaking.{CopyCountValue}
+use Rattle.pn_tablet.specs.CopyWriting.{CopyCountValue}
 use Rattle.pn_tablet.proofs.CopyCounted.{counts_on, many_lines}
 use Rattle.pn_tablet.proofs.copy_count.CopyCount.go_on.Goals as goal
 

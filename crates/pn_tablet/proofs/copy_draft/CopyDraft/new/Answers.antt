@@ -1,5 +1,5 @@
 -- A draft begins without marks and without cells.
-use Rattle.pn_tablet.proofs.Drafting.{draft-empty}
+use Rattle.pn_tablet.proofs.Keeping.{draft-empty}
 use Rattle.pn_tablet.proofs.copy_draft.CopyDraft.new.Goals as goal
 
 pub invariant_of-result : goal.invariant_of-result

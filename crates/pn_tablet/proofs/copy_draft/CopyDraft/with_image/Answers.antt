@@ -3,8 +3,8 @@ use Rattle.std.proofs.Common.{rules, ◌≡◌, true, sym, ap, ◌∙◌}
 use Rattle.std.specs.Option.{option_copied, option_map_or}
 use Rattle.pn_tablet.specs.CopyReading.{with_image}
 use Rattle.pn_tablet.specs.CopyTexts.{comes_after}
-use Rattle.pn_tablet.specs.Drafts.{DraftValue, with_last}
-use Rattle.pn_tablet.proofs.Drafting.{draft-image, imaged}
+use Rattle.pn_tablet.specs.Copies.{DraftValue, with_last}
+use Rattle.pn_tablet.proofs.Keeping.{draft-image, imaged}
 use Rattle.pn_tablet.proofs.copy_draft.CopyDraft.with_image.Goals as goal
 
 pub invariant_of-self : goal.invariant_of-self

@@ -1,8 +1,8 @@
 -- A mark that comes after the others, before any image.
 use Rattle.std.proofs.Common.{sym, ap, ◌∙◌}
 use Rattle.pn_tablet.specs.CopyReading.{with_mark}
-use Rattle.pn_tablet.specs.Drafts.{DraftValue, with_last}
-use Rattle.pn_tablet.proofs.Drafting.{draft-mark, marked}
+use Rattle.pn_tablet.specs.Copies.{DraftValue, with_last}
+use Rattle.pn_tablet.proofs.Keeping.{draft-mark, marked}
 use Rattle.pn_tablet.proofs.copy_draft.CopyDraft.with_mark.Goals as goal
 
 pub invariant_of-self : goal.invariant_of-self

@@ -1,8 +1,8 @@
 -- The line of the cursor that the text is at.
 use Rattle.std.proofs.Common.{ap, subst}
-use Rattle.pn_json.specs.AppendedText.{MakesPiece}
-use Rattle.pn_tablet.specs.CopyMaking.{CopyTextValue, copy_rest}
-use Rattle.pn_tablet.specs.declared.copy_line_appending.TheConstants.{MAX_COPY_LINE_BYTES}
+use Rattle.pn_json.specs.Tokens.{MakesPiece}
+use Rattle.pn_tablet.specs.CopyWriting.{CopyTextValue, copy_rest}
+use Rattle.pn_tablet.specs.declared.copy_line_writing.TheConstants.{MAX_COPY_LINE_BYTES}
 use Rattle.pn_tablet.proofs.copy_text.CopyText.append_line.Goals as goal
 
 pub invariant_of-self : goal.invariant_of-self

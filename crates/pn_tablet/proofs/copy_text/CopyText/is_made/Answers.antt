@@ -1,7 +1,7 @@
 -- A cursor before the end has a line still to be made.
 use Rattle.std.proofs.Common.{◌≡◌, [], subst}
 use Rattle.std.specs.Prelude.{◌↔◌, IsTrue}
-use Rattle.pn_tablet.specs.CopyMaking.{CopyTextValue}
+use Rattle.pn_tablet.specs.CopyWriting.{CopyTextValue}
 use Rattle.pn_tablet.proofs.CopyMade.{made_where}
 use Rattle.pn_tablet.proofs.copy_text.CopyText.is_made.Goals as goal
 

@@ -1,7 +1,7 @@
 -- What is not deleted is there.
 use Rattle.std.proofs.Common.{◌≡◌, ◌-◌, not, count_by, ap, ◌∙◌, arith}
-use Rattle.pn_record.specs.CellMap.{Entries}
-use Rattle.pn_tablet.specs.Counting.{deleted_in, is_deleted}
+use Rattle.pn_record.specs.Cells.{Entries}
+use Rattle.pn_tablet.specs.Tablets.{deleted_in, is_deleted}
 use Rattle.pn_tablet.proofs.Counting.{both_counted}
 use Rattle.pn_tablet.proofs.counted_cells.CountedCells.counts.Goals as goal
 

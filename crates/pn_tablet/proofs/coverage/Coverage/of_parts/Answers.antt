@@ -1,6 +1,6 @@
 -- A cover that reaches its reach equals it.
 use Rattle.std.proofs.Common.{◌≡◌}
-use Rattle.pn_tablet.proofs.Coverages.{same_reached}
+use Rattle.pn_tablet.proofs.TabletLaws.{same_reached}
 use Rattle.pn_tablet.proofs.coverage.Coverage.of_parts.Goals as goal
 
 pub returns-then-reaches : goal.returns-then-reaches

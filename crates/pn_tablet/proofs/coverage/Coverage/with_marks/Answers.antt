@@ -1,7 +1,7 @@
 -- The same marks raise the reach and the cover.
 use Rattle.std.proofs.Common.{unwrap_or, sym, subst}
 use Rattle.pn_tablet.specs.Tablets.{IsCoverage}
-use Rattle.pn_tablet.proofs.Coverages.{both_raised}
+use Rattle.pn_tablet.proofs.TabletLaws.{both_raised}
 use Rattle.pn_tablet.proofs.coverage.Coverage.with_marks.Goals as goal
 
 pub invariant_of-result : goal.invariant_of-result

@@ -1,7 +1,7 @@
 -- Bounds without a fall rise.
 use Rattle.std.proofs.Common.{arith, sym, ap, ◌∙◌}
 use Rattle.pn_tablet.specs.Layouts.{first_fall}
-use Rattle.pn_tablet.proofs.BoundSteps.{rising_from_none}
+use Rattle.pn_tablet.proofs.LayoutFacts.{rising_from_none}
 use Rattle.pn_tablet.proofs.layout.Layout.new.Goals as goal
 
 pub invariant_of-result : goal.invariant_of-result

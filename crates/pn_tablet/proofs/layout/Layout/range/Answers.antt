@@ -1,7 +1,7 @@
 -- The bounds of a layout rise.
 use Rattle.std.proofs.Common.{subst}
 use Rattle.std.specs.List.Sorted.{IsStrictlySortedBy}
-use Rattle.pn_record.specs.Order.{bytes_cmp}
+use Rattle.pn_record.specs.Sets.{bytes_cmp}
 use Rattle.pn_tablet.specs.Layouts.{Bounds}
 use Rattle.pn_tablet.proofs.LayoutFacts.{ends_in_order}
 use Rattle.pn_tablet.proofs.layout.Layout.range.Goals as goal

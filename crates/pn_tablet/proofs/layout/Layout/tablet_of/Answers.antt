@@ -2,9 +2,9 @@
 use Rattle.std.proofs.Common.{◌∙◌, ap, sym, subst, is_le, rules}
 use Rattle.std.proofs.lemmas.List.Sorted.{IsPartitionPoint-from_clause}
 use Rattle.std.specs.List.Sorted.{IsStrictlySortedBy}
-use Rattle.pn_record.specs.Order.{bytes_cmp}
+use Rattle.pn_record.specs.Sets.{bytes_cmp}
 use Rattle.pn_tablet.specs.Layouts.{Bounds, tablet_of}
-use Rattle.pn_tablet.proofs.BoundSteps.{partitioned_by_test, count_by_test}
+use Rattle.pn_tablet.proofs.LayoutFacts.{partitioned_by_test, count_by_test}
 use Rattle.pn_tablet.proofs.layout.Layout.tablet_of.Goals as goal
 
 pub returns-clause-tablet : goal.returns-clause-tablet

@@ -3,12 +3,11 @@ use Rattle.std.proofs.Common.{◌≡◌, true, refl, sym, ap, ◌∙◌, subst}
 use Rattle.pn_record.specs.Cells.{spell}
 use Rattle.pn_record.proofs.CellMaps.{held_adds}
 use Rattle.pn_tablet.specs.Copies.{TabletCopyValue}
-use Rattle.pn_tablet.specs.Needs.{need_shortfall}
-use Rattle.pn_tablet.specs.Tablets.{TabletStateValue, lie_in, same_range}
+use Rattle.pn_tablet.specs.Tablets.{need_shortfall, TabletStateValue, lie_in, same_range}
 use Rattle.pn_tablet.specs.Steps.{step}
 use Rattle.pn_tablet.specs.declared.state.TabletOp.TheVariants.{Adopt}
 use Rattle.pn_tablet.proofs.Keeping.{kept}
-use Rattle.pn_tablet.proofs.Stepping.{one_range, adopted_copy, adopt_step}
+use Rattle.pn_tablet.proofs.JoinLaws.{one_range, adopted_copy, adopt_step}
 use Rattle.pn_tablet.proofs.state.TabletState.adopt.Goals as goal
 
 pub invariant_of-self-2 : goal.invariant_of-self-2

@@ -1,7 +1,6 @@
 -- Cells with a spare copy of their reach.
 use Rattle.std.proofs.Common.{true, refl, ap, subst, sym, ◌∙◌, ◌≡◌}
-use Rattle.pn_record.specs.Cells.{spell}
-use Rattle.pn_record.specs.CellMap.{Entries, table_of}
+use Rattle.pn_record.specs.Cells.{spell, Entries, table_of}
 use Rattle.pn_tablet.specs.Tablets.{CoverageValue, lie_in}
 use Rattle.pn_tablet.proofs.SpelledImages.{spelled_own}
 use Rattle.pn_tablet.proofs.state.TabletState.of_parts.Goals as goal

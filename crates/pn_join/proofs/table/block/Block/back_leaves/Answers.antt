@@ -1,11 +1,10 @@
 -- The next leaf comes after those so far, as in the block.
 use Rattle.std.proofs.Common.{◌≡◌, ◌<◌, [], length, get_or, refl, ap, ◌∙◌, arith}
-use Rattle.pn_join.specs.LeafEntries.{leaf_entries, leaves_of}
-use Rattle.pn_join.specs.Leaves.{IsLeaf, IsLeafList}
+use Rattle.pn_join.specs.Leaves.{leaf_entries, leaves_of, IsLeaf, IsLeafList}
 use Rattle.pn_join.proofs.BlockGrowth.{next_leaves, next_parted}
-use Rattle.pn_join.proofs.Each.{each_last}
+use Rattle.pn_join.proofs.Rising.{each_last}
 use Rattle.pn_join.proofs.LeafListFacts.{leaf_is, length-leaves}
-use Rattle.pn_join.proofs.LeafListGrowth.{all_push}
+use Rattle.pn_join.proofs.SliceFacts.{all_push}
 use Rattle.pn_join.proofs.table.block.Block.back_leaves.Goals as goal
 
 pub push-requires-clause-table : goal.push-requires-clause-table

@@ -1,9 +1,8 @@
 use Rattle.std.proofs.Common.{[], length, take, get_or, ap, ◌∙◌, sym, arith}
 use Rattle.pn_join.specs.Leaves.{all_entries}
-use Rattle.pn_join.specs.Indices.{index_of}
+use Rattle.pn_join.specs.Tables.{index_of}
 use Rattle.pn_join.proofs.Indices.{tie_within, gap_within}
-use Rattle.pn_join.proofs.LeafListFacts.{list_some, list_rising, leaf_for-inside}
-use Rattle.pn_join.proofs.LeafListIndices.{leaf_within}
+use Rattle.pn_join.proofs.LeafListFacts.{list_some, list_rising, leaf_for-inside, leaf_within}
 use Rattle.pn_join.proofs.LeafListSearch.{shifted, shifted-Ok, shifted-Err, index_in_list}
 use Rattle.pn_join.proofs.table.block.Block.binary_search.Goals as goal
 

@@ -1,6 +1,6 @@
 use Rattle.std.proofs.Common.{◌+◌, ◌-◌, ◌≡◌, length, take, get_or, slice_get, [], ap, ◌∙◌, sym, arith}
 use Rattle.pn_join.specs.Leaves.{all_entries}
-use Rattle.pn_join.proofs.LeafListIndices.{leaf_at-prefix, entry_in_list}
+use Rattle.pn_join.proofs.LeafListFacts.{leaf_at-prefix, entry_in_list}
 use Rattle.pn_join.proofs.table.block.Block.entry_at.Goals as goal
 
 pub returns-clause-entry : goal.returns-clause-entry

@@ -1,6 +1,6 @@
 use Rattle.std.proofs.Common.{ap, ◌∙◌, subst}
 use Rattle.pn_join.specs.Edits.{FitLeaves}
-use Rattle.pn_join.specs.LeafEntries.{leaves_of}
+use Rattle.pn_join.specs.Leaves.{leaves_of}
 use Rattle.pn_join.proofs.table.block.Block.fits.Goals as goal
 
 pub returns-clause-fit : goal.returns-clause-fit

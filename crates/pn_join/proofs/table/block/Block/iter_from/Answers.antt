@@ -1,8 +1,7 @@
 use Rattle.std.proofs.Common.{◌≡◌, ◌+◌, ◌-◌, ◌++◌, suc, length, take, drop, get_or, [], ap, ◌∙◌, sym, arith}
-use Rattle.pn_join.specs.LeafEntries.{leaves_of}
-use Rattle.pn_join.specs.Leaves.{all_entries}
-use Rattle.pn_join.proofs.LeafListIndices.{leaf_at, leaf_at-prefix, rest_in_list}
-use Rattle.pn_join.proofs.LeafListGrowth.{leaves_of-rest}
+use Rattle.pn_join.specs.Leaves.{leaves_of, all_entries}
+use Rattle.pn_join.proofs.LeafListFacts.{leaf_at, leaf_at-prefix, rest_in_list}
+use Rattle.pn_join.proofs.SliceFacts.{leaves_of-rest}
 use Rattle.pn_join.proofs.table.block.Block.iter_from.Goals as goal
 
 pub returns-clause-rest : goal.returns-clause-rest

@@ -1,6 +1,6 @@
 use Rattle.std.proofs.Common.{◌≡◌, [], ◌∷◌, vec_len, sym, ap, ◌∙◌, arith, rules}
 use Rattle.std.proofs.lemmas.Result.{on_ok_weaker}
-use Rattle.pn_join.specs.LeafEntries.{leaves_of}
+use Rattle.pn_join.specs.Leaves.{leaves_of}
 use Rattle.pn_join.proofs.LeafListEdits.{first_leaf}
 use Rattle.pn_join.proofs.PutTogether.{none_left}
 use Rattle.pn_join.proofs.table.block.Block.join_entry.Goals as goal

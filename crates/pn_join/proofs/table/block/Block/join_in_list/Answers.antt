@@ -1,16 +1,11 @@
 use Rattle.std.proofs.Common.{◌≡◌, ◌+◌, ◌-◌, ◌^◌, ◌<◌, ◌++◌, [], length, get_or, take, set, ap, ◌∙◌, sym, arith}
 use Rattle.std.proofs.lemmas.List.{length-append}
-use Rattle.pn_join.specs.LeafEntries.{leaf_entries, leaves_of}
-use Rattle.pn_join.specs.Indices.{index_of}
-use Rattle.pn_join.specs.Leaves.{all_entries, leaf_for}
-use Rattle.pn_join.specs.PutInLeaves.{IsPutOf}
-use Rattle.pn_join.specs.LeafListChanges.{with_back, counts_with}
-use Rattle.pn_join.proofs.PutFacts.{length-grows, length-by_one}
+use Rattle.pn_join.specs.Leaves.{leaf_entries, leaves_of, all_entries, leaf_for, IsPutOf, with_back, counts_with}
+use Rattle.pn_join.specs.Tables.{index_of}
+use Rattle.pn_join.proofs.Puts.{length-grows, length-by_one}
 use Rattle.pn_join.proofs.LeafListEdits.{fit_counts, one_leaf}
-use Rattle.pn_join.proofs.LeafListFacts.{inside_list, leaf_is, IsTable-leaf, IsLeaf-at, leaf_for-inside, length-leaves}
-use Rattle.pn_join.proofs.LeafListGrowth.{leaves_of-set, same_leaves, on_err_of}
-use Rattle.pn_join.proofs.LeafListJoin.{put_in_all, joined_list, joined_counts}
-use Rattle.pn_join.proofs.LeafListIndices.{leaf_within, length-counts}
+use Rattle.pn_join.proofs.LeafListFacts.{inside_list, leaf_is, IsTable-leaf, IsLeaf-at, leaf_for-inside, length-leaves, put_in_all, joined_list, joined_counts, leaf_within, length-counts}
+use Rattle.pn_join.proofs.SliceFacts.{leaves_of-set, same_leaves, on_err_of}
 use Rattle.pn_join.proofs.table.block.Block.join_in_list.Goals as goal
 
 pub start-start-requires : goal.start-start-requires

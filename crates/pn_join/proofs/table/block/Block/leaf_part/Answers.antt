@@ -1,10 +1,8 @@
 -- The part is cut from the leaf in which the first entry stands.
 use Rattle.std.proofs.Common.{◌≡◌, ◌-◌, ◌<◌, [], length, get_or, take, slice_range, refl, ap, ◌∙◌, arith}
 use Rattle.std.proofs.lemmas.Result.{IfOk-weaker}
-use Rattle.pn_join.specs.LeafEntries.{leaf_entries, leaves_of}
-use Rattle.pn_join.specs.Leaves.{all_entries, IsLeaf}
-use Rattle.pn_join.proofs.LeafListFacts.{leaf_is, IsLeaf-at, length-leaves}
-use Rattle.pn_join.proofs.LeafListIndices.{leaf_at, leaf_at-prefix}
+use Rattle.pn_join.specs.Leaves.{leaf_entries, leaves_of, all_entries, IsLeaf}
+use Rattle.pn_join.proofs.LeafListFacts.{leaf_is, IsLeaf-at, length-leaves, leaf_at, leaf_at-prefix}
 use Rattle.pn_join.proofs.SliceFacts.{StandsIn, stands, part_size, part_begins}
 use Rattle.pn_join.proofs.table.block.Block.leaf_part.Goals as goal
 

@@ -1,8 +1,7 @@
 -- The leaves are ready, and have the same entries.
 use Rattle.std.proofs.Common.{◌≡◌, ◌+◌, ◌<◌, ◌^◌, length, ap, arith}
 use Rattle.pn_join.specs.Edits.{AreAimed, FitLeaves}
-use Rattle.pn_join.specs.LeafEntries.{leaves_of}
-use Rattle.pn_join.specs.Leaves.{all_entries}
+use Rattle.pn_join.specs.Leaves.{leaves_of, all_entries}
 use Rattle.pn_join.proofs.table.block.Block.open_fitting.Goals as goal
 
 pub invariant_of-result : goal.invariant_of-result

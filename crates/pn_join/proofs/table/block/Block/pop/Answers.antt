@@ -1,9 +1,8 @@
 -- The leaves and the counts lose their last items alike.
 use Rattle.std.proofs.Common.{◌≡◌, ◌-◌, length, take, vec_len, ap, ◌∙◌, sym, arith}
 use Rattle.std.proofs.lemmas.List.{take-map}
-use Rattle.pn_join.specs.LeafEntries.{leaf_entries, leaves_of}
-use Rattle.pn_join.proofs.LeafListFacts.{length-leaves}
-use Rattle.pn_join.proofs.LeafListIndices.{length-counts}
+use Rattle.pn_join.specs.Leaves.{leaf_entries, leaves_of}
+use Rattle.pn_join.proofs.LeafListFacts.{length-leaves, length-counts}
 use Rattle.pn_join.proofs.SliceFacts.{first_leaves, first_counts}
 use Rattle.pn_join.proofs.table.block.Block.pop.Goals as goal
 

@@ -1,7 +1,6 @@
 use Rattle.std.proofs.Common.{◌≡◌, ◌+◌, ◌^◌, ◌<◌, ◌++◌, ◌∷◌, [], length, ap, ◌∙◌, arith}
-use Rattle.pn_join.specs.LeafEntries.{leaf_entries, leaves_of}
-use Rattle.pn_join.specs.Leaves.{all_entries}
-use Rattle.pn_join.proofs.LeafListGrowth.{leaves_of-push, pushed_counts, pushed_list}
+use Rattle.pn_join.specs.Leaves.{leaf_entries, leaves_of, all_entries}
+use Rattle.pn_join.proofs.SliceFacts.{leaves_of-push, pushed_counts, pushed_list}
 use Rattle.pn_join.proofs.table.block.Block.push.Goals as goal
 
 pub invariant_of-self-2 : goal.invariant_of-self-2

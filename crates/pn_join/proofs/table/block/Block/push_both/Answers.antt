@@ -1,7 +1,6 @@
 -- The first leaf goes on from what is there, since both do.
 use Rattle.std.proofs.Common.{◌++◌, refl}
-use Rattle.pn_join.specs.LeafEntries.{leaf_entries}
-use Rattle.pn_join.specs.Leaves.{all_entries}
+use Rattle.pn_join.specs.Leaves.{leaf_entries, all_entries}
 use Rattle.pn_join.proofs.SliceFacts.{next_table}
 use Rattle.pn_join.proofs.table.block.Block.push_both.Goals as goal
 

@@ -1,8 +1,7 @@
 -- The next leaf and what is there are a table, since the whole is.
 use Rattle.std.proofs.Common.{◌++◌, ◌<◌, length, reverse, arith}
-use Rattle.pn_join.specs.LeafEntries.{leaf_entries}
-use Rattle.pn_join.specs.Leaves.{all_entries}
-use Rattle.pn_join.proofs.Building.{part_table, have_entries}
+use Rattle.pn_join.specs.Leaves.{leaf_entries, all_entries}
+use Rattle.pn_join.proofs.BlockGrowth.{part_table, have_entries}
 use Rattle.pn_join.proofs.table.block.Block.push_leaves.Goals as goal
 
 pub push-requires-clause-table : goal.push-requires-clause-table

@@ -2,12 +2,10 @@
 use Rattle.std.proofs.Common.{◌≡◌, ◌++◌, sym, ap, ◌∙◌, subst, append_assoc, append-nil}
 use Rattle.std.proofs.lemmas.Result.{on_ok_weaker}
 use Rattle.std.specs.List.{AllByRecursion}
-use Rattle.pn_join.specs.LeafEntries.{leaf_entries}
-use Rattle.pn_join.specs.Leaves.{all_entries, IsLeaf}
+use Rattle.pn_join.specs.Leaves.{leaf_entries, all_entries, IsLeaf}
 use Rattle.pn_join.specs.Tables.{IsTable}
-use Rattle.pn_join.proofs.Each.{each_last}
-use Rattle.pn_join.proofs.LeafListGrowth.{all_push}
-use Rattle.pn_join.proofs.SliceFacts.{with_last}
+use Rattle.pn_join.proofs.Rising.{each_last}
+use Rattle.pn_join.proofs.SliceFacts.{all_push, with_last}
 use Rattle.pn_join.proofs.table.block.Block.push_or_merge.Goals as goal
 
 pub push_both-requires-clause-table : goal.push_both-requires-clause-table

@@ -1,7 +1,6 @@
 -- The next part and what is there are a table, since the whole is.
 use Rattle.std.proofs.Common.{◌+◌, length, slice_range}
-use Rattle.pn_join.specs.LeafEntries.{leaf_entries}
-use Rattle.pn_join.specs.Leaves.{all_entries}
+use Rattle.pn_join.specs.Leaves.{leaf_entries, all_entries}
 use Rattle.pn_join.proofs.SliceFacts.{next_table}
 use Rattle.pn_join.proofs.table.block.Block.push_parts.Goals as goal
 

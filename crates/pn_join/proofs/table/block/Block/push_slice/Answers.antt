@@ -1,7 +1,6 @@
 -- The first part and the others make the slice.
 use Rattle.std.proofs.Common.{◌≡◌, ◌+◌, ◌++◌, length, slice_range, ap, ◌∙◌}
-use Rattle.pn_join.specs.LeafEntries.{leaf_entries}
-use Rattle.pn_join.specs.Leaves.{all_entries}
+use Rattle.pn_join.specs.Leaves.{leaf_entries, all_entries}
 use Rattle.pn_join.proofs.SliceFacts.{next_table, one_part}
 use Rattle.pn_join.proofs.table.block.Block.push_slice.Goals as goal
 

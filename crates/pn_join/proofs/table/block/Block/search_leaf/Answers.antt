@@ -1,7 +1,7 @@
 use Rattle.std.proofs.Common.{ap, ◌∙◌, arith, rules}
 use Rattle.std.proofs.lemmas.List.Sorted.{IsPartitionPoint-from_clause}
 use Rattle.pn_join.specs.Leaves.{leaf_for}
-use Rattle.pn_join.proofs.Partitions.{prefix_at}
+use Rattle.pn_join.proofs.Rising.{prefix_at}
 use Rattle.pn_join.proofs.LeafListFacts.{leaf_ends_below, leaves_parted, leaf_searched}
 use Rattle.pn_join.proofs.table.block.Block.search_leaf.Goals as goal
 

@@ -1,13 +1,9 @@
 use Rattle.std.proofs.Common.{◌≡◌, ◌+◌, ◌^◌, ◌<◌, ◌++◌, [], length, get_or, take, set, ap, ◌∙◌, sym, arith}
 use Rattle.std.proofs.lemmas.List.{length-append}
-use Rattle.pn_join.specs.LeafEntries.{leaf_entries, leaves_of}
-use Rattle.pn_join.specs.Leaves.{all_entries}
-use Rattle.pn_join.specs.LeafListChanges.{with_back, counts_with}
-use Rattle.pn_join.proofs.LeafListEdits.{fit_counts}
-use Rattle.pn_join.proofs.LeafListFacts.{leaf_is, IsLeaf-at, length-leaves}
-use Rattle.pn_join.proofs.LeafListGrowth.{leaves_of-set, same_leaves}
-use Rattle.pn_join.proofs.LeafListIndices.{leaf_within, length-counts}
-use Rattle.pn_join.proofs.LeafListSplits.{all_split, split_counts, split_list}
+use Rattle.pn_join.specs.Leaves.{leaf_entries, leaves_of, all_entries, with_back, counts_with}
+use Rattle.pn_join.proofs.LeafListEdits.{fit_counts, all_split, split_counts, split_list}
+use Rattle.pn_join.proofs.LeafListFacts.{leaf_is, IsLeaf-at, length-leaves, leaf_within, length-counts}
+use Rattle.pn_join.proofs.SliceFacts.{leaves_of-set, same_leaves}
 use Rattle.pn_join.proofs.table.block.Block.split.Goals as goal
 
 pub index_mut-leaf-requires : goal.index_mut-leaf-requires

@@ -1,7 +1,7 @@
 -- The leaves and the counts keep their first items alike.
 use Rattle.std.proofs.Common.{◌≡◌, take, ap, ◌∙◌, sym}
 use Rattle.std.proofs.lemmas.List.{take-map}
-use Rattle.pn_join.specs.LeafEntries.{leaf_entries, leaves_of}
+use Rattle.pn_join.specs.Leaves.{leaf_entries, leaves_of}
 use Rattle.pn_join.proofs.SliceFacts.{first_leaves, first_counts}
 use Rattle.pn_join.proofs.table.block.Block.truncate.Goals as goal
 

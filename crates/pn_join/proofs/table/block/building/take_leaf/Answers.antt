@@ -1,6 +1,6 @@
 -- What is taken off comes first.
 use Rattle.std.proofs.Common.{◌++◌, reverse, drop, ap, ◌∙◌}
-use Rattle.pn_join.proofs.Building.{reversed_parts}
+use Rattle.pn_join.proofs.BlockGrowth.{reversed_parts}
 use Rattle.pn_join.proofs.table.block.building.take_leaf.Goals as goal
 
 pub returns-clause-parted : goal.returns-clause-parted

@@ -1,8 +1,7 @@
 -- Going on to the next leaf leaves the remaining entries the same.
 use Rattle.std.proofs.Common.{◌≡◌, ◌++◌, length}
 use Rattle.std.specs.Slice.Iter.{iter_rest}
-use Rattle.pn_join.specs.LeafEntries.{leaves_of}
-use Rattle.pn_join.specs.Leaves.{all_entries}
+use Rattle.pn_join.specs.Leaves.{leaves_of, all_entries}
 use Rattle.pn_join.proofs.table.block_entries.BlockEntriesIterator.next.Given as goal
 
 abbrev pub invariant-loop-key : goal.invariant-loop-key

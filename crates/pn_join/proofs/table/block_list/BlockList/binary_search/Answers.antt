@@ -1,12 +1,11 @@
 -- The index in its block is moved by the entries before that block.
 use Rattle.std.proofs.Common.{◌≡◌, [], length, take, get_or, ap, ◌∙◌, sym, arith}
 use Rattle.pn_join.specs.Blocks.{in_blocks}
-use Rattle.pn_join.specs.Indices.{index_of}
+use Rattle.pn_join.specs.Tables.{index_of}
 use Rattle.pn_join.specs.Leaves.{all_entries}
 use Rattle.pn_join.proofs.BlockFacts.{all_in_blocks, at_block, block_there, block_missing, blocks_rising, blocks_some, length-in_blocks}
 use Rattle.pn_join.proofs.Indices.{tie_within, gap_within}
-use Rattle.pn_join.proofs.LeafListFacts.{leaf_for-inside}
-use Rattle.pn_join.proofs.LeafListIndices.{leaf_within}
+use Rattle.pn_join.proofs.LeafListFacts.{leaf_for-inside, leaf_within}
 use Rattle.pn_join.proofs.LeafListSearch.{shifted, shifted-Ok, shifted-Err, shifted-first, index_in_list}
 use Rattle.pn_join.proofs.table.block_list.BlockList.binary_search.Goals as goal
 

@@ -2,9 +2,8 @@ use Rattle.std.proofs.Common.{length, ap, ◌∙◌, arith, rules}
 use Rattle.std.specs.List.{prefix_len}
 use Rattle.std.proofs.lemmas.List.Sorted.{IsPartitionPoint-from_clause, IsPartitionedBy-leb}
 use Rattle.pn_join.specs.Leaves.{counts_after}
-use Rattle.pn_join.proofs.Partitions.{prefix_at}
-use Rattle.pn_join.proofs.LeafListFacts.{counts_by}
-use Rattle.pn_join.proofs.LeafListIndices.{counts_rise, length-counts}
+use Rattle.pn_join.proofs.Rising.{prefix_at}
+use Rattle.pn_join.proofs.LeafListFacts.{counts_by, counts_rise, length-counts}
 use Rattle.pn_join.proofs.table.block_list.BlockList.block_of_leaf.Goals as goal
 
 pub returns-clause-block : goal.returns-clause-block

@@ -4,8 +4,7 @@ use Rattle.std.proofs.lemmas.Result.{IfOk-weaker}
 use Rattle.pn_join.specs.Blocks.{in_blocks}
 use Rattle.pn_join.specs.Leaves.{all_entries}
 use Rattle.pn_join.proofs.BlockFacts.{all_in_blocks, at_block, length-in_blocks}
-use Rattle.pn_join.proofs.LeafListFacts.{same_at}
-use Rattle.pn_join.proofs.LeafListIndices.{leaf_at, leaf_at-prefix}
+use Rattle.pn_join.proofs.LeafListFacts.{same_at, leaf_at, leaf_at-prefix}
 use Rattle.pn_join.proofs.SliceFacts.{StandsIn, stands, part_some, part_within, part_begins}
 use Rattle.pn_join.proofs.table.block_list.BlockList.block_part.Goals as goal
 

@@ -2,10 +2,10 @@
 use Rattle.std.proofs.Common.{◌≡◌, ◌+◌, length, insert, take, ap, ◌∙◌, arith, rules}
 use Rattle.pn_join.specs.Blocks.{in_blocks, AreBlocks}
 use Rattle.pn_join.specs.Leaves.{all_entries, AreEntryCounts}
-use Rattle.pn_join.proofs.BlockCounts.{within_some}
+use Rattle.pn_join.proofs.BlockGrowth.{within_some}
 use Rattle.pn_join.proofs.BlockFacts.{length-in_blocks}
-use Rattle.pn_join.proofs.BlockHalfSteps.{front_fits, front_leaves_fit, halved_by_leaves, same_leaves_halved, blocks_halved, halved_by_entries}
-use Rattle.pn_join.proofs.LeafListIndices.{length-counts}
+use Rattle.pn_join.proofs.BlockHalves.{front_fits, front_leaves_fit, halved_by_leaves, same_leaves_halved, blocks_halved, halved_by_entries}
+use Rattle.pn_join.proofs.LeafListFacts.{length-counts}
 use Rattle.pn_join.proofs.table.block_list.BlockList.halve.Goals as goal
 
 pub entries_before-start-requires : goal.entries_before-start-requires

@@ -1,8 +1,7 @@
 use Rattle.std.proofs.Common.{ap, ◌∙◌}
-use Rattle.pn_join.specs.BlockEdits.{changes_in_blocks}
+use Rattle.pn_join.specs.Edits.{changes_in_blocks}
 use Rattle.pn_join.specs.Blocks.{entries_in}
-use Rattle.pn_join.specs.TableChanges.{AreChanges}
-use Rattle.pn_join.specs.Tables.{contents_at}
+use Rattle.pn_join.specs.Tables.{AreChanges, contents_at}
 use Rattle.pn_join.proofs.Changing.{puts_joined, valid_changes}
 use Rattle.pn_join.proofs.table.block_list.BlockList.join_all.Goals as goal
 

@@ -2,9 +2,9 @@
 use Rattle.std.proofs.Common.{◌≡◌, ◌+◌, ◌^◌, ◌<◌, length, ap, ◌∙◌, sym, arith}
 use Rattle.pn_join.specs.Blocks.{in_blocks, entries_in}
 use Rattle.pn_join.specs.Leaves.{all_entries, leaf_for}
-use Rattle.pn_join.proofs.BlockCounts.{few_leaves}
+use Rattle.pn_join.proofs.BlockGrowth.{few_leaves}
 use Rattle.pn_join.proofs.BlockFacts.{length-in_blocks}
-use Rattle.pn_join.proofs.BlockJoinSteps.{now_put, now_one, now_blocks, entries_fit, leaves_fit, now_by_entries, now_by_leaves}
+use Rattle.pn_join.proofs.BlockJoin.{now_put, now_one, now_blocks, entries_fit, leaves_fit, now_by_entries, now_by_leaves}
 use Rattle.pn_join.proofs.LeafListSearch.{leaf_for-within}
 use Rattle.pn_join.proofs.table.block_list.BlockList.join_in_block.Goals as goal
 

@@ -1,7 +1,6 @@
 use Rattle.std.proofs.Common.{◌-◌, length, take, get_or, ap, ◌∙◌, arith}
 use Rattle.pn_join.specs.Leaves.{all_entries}
-use Rattle.pn_join.proofs.LeafListFacts.{start_at}
-use Rattle.pn_join.proofs.LeafListIndices.{length-counts}
+use Rattle.pn_join.proofs.LeafListFacts.{start_at, length-counts}
 use Rattle.pn_join.proofs.table.block_list.BlockList.leaves_before.Goals as goal
 
 pub index-requires : goal.index-requires

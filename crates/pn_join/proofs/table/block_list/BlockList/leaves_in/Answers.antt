@@ -1,6 +1,6 @@
 -- The leaves of a block are those up to its end, but for those before it.
 use Rattle.std.proofs.Common.{◌<◌, ◌≤◌, length, ap, sym, arith}
-use Rattle.pn_join.proofs.BlockCounts.{next_start, past_none}
+use Rattle.pn_join.proofs.BlockGrowth.{next_start, past_none}
 use Rattle.pn_join.proofs.table.block_list.BlockList.leaves_in.Goals as goal
 
 pub returns-then-index-len : goal.returns-then-index-len

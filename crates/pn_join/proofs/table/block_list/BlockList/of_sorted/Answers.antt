@@ -4,8 +4,7 @@ use Rattle.std.proofs.lemmas.Bool.Decides.{nat_tests}
 use Rattle.pn_join.specs.Blocks.{entries_in}
 use Rattle.pn_join.specs.Leaves.{all_entries}
 use Rattle.pn_join.specs.Tables.{IsTable}
-use Rattle.pn_join.proofs.BlockGrowth.{IsTable-back}
-use Rattle.pn_join.proofs.Building.{all_are, fewer_left, next_block, part_table}
+use Rattle.pn_join.proofs.BlockGrowth.{IsTable-back, all_are, fewer_left, next_block, part_table}
 use Rattle.pn_join.proofs.table.block_list.BlockList.of_sorted.Goals as goal
 
 pub of_next-requires : goal.of_next-requires

@@ -3,7 +3,7 @@ use Rattle.std.proofs.Common.{◌≡◌, ◌-◌, length, take, vec_len, ap, ◌
 use Rattle.pn_join.specs.Blocks.{in_blocks}
 use Rattle.pn_join.proofs.BlockFacts.{length-in_blocks, take_blocks}
 use Rattle.pn_join.proofs.BlockGrowth.{first_blocks}
-use Rattle.pn_join.proofs.LeafListIndices.{length-counts}
+use Rattle.pn_join.proofs.LeafListFacts.{length-counts}
 use Rattle.pn_join.proofs.SliceFacts.{first_counts}
 use Rattle.pn_join.proofs.table.block_list.BlockList.pop.Goals as goal
 

@@ -4,7 +4,7 @@ use Rattle.pn_join.specs.Blocks.{in_blocks, entries_in}
 use Rattle.pn_join.specs.Leaves.{all_entries, IsLeafList}
 use Rattle.pn_join.proofs.BlockFacts.{all_in_blocks}
 use Rattle.pn_join.proofs.BlockGrowth.{in_blocks-push, pushed_blocks}
-use Rattle.pn_join.proofs.LeafListGrowth.{pushed_counts}
+use Rattle.pn_join.proofs.SliceFacts.{pushed_counts}
 use Rattle.pn_join.proofs.table.block_list.BlockList.push.Goals as goal
 
 pub invariant_of-self-2 : goal.invariant_of-self-2

@@ -6,7 +6,7 @@ use Rattle.pn_join.specs.Blocks.{entries_in}
 use Rattle.pn_join.specs.Leaves.{all_entries}
 use Rattle.pn_join.specs.Tables.{IsTable}
 use Rattle.pn_join.proofs.BlockGrowth.{entries_push}
-use Rattle.pn_join.proofs.Each.{each_last}
+use Rattle.pn_join.proofs.Rising.{each_last}
 use Rattle.pn_join.proofs.table.block_list.BlockList.push_or_merge.Goals as goal
 
 pub push_both-requires-clause-table : goal.push_both-requires-clause-table

@@ -1,13 +1,13 @@
 -- Whatever came of the edits, these are blocks, and they are counted.
 use Rattle.std.proofs.Common.{◌≡◌, ◌^◌, ◌<◌, length, ap, ◌∙◌, sym, arith, rules}
 use Rattle.std.proofs.lemmas.Result.{IfOk-weaker, on_err_weaker}
-use Rattle.pn_join.specs.BlockEdits.{changes_in_blocks}
+use Rattle.pn_join.specs.Edits.{changes_in_blocks}
 use Rattle.pn_join.specs.Blocks.{in_blocks, entries_in}
 use Rattle.pn_join.specs.Leaves.{all_entries}
-use Rattle.pn_join.specs.TableChanges.{puts}
-use Rattle.pn_join.proofs.BlockCounts.{Edited, edited, edited_blocks}
+use Rattle.pn_join.specs.Tables.{puts}
+use Rattle.pn_join.proofs.BlockGrowth.{Edited, edited, edited_blocks}
 use Rattle.pn_join.proofs.BlockFacts.{all_in_blocks, length-in_blocks}
-use Rattle.pn_join.proofs.LeafListIndices.{length-counts}
+use Rattle.pn_join.proofs.LeafListFacts.{length-counts}
 use Rattle.pn_join.proofs.table.block_list.BlockList.put_in_blocks.Goals as goal
 
 pub edit_blocks-done-requires-clause-blocks : goal.edit_blocks-done-requires-clause-blocks

@@ -3,7 +3,7 @@ use Rattle.std.proofs.lemmas.List.Sorted.{IsPartitionPoint-from_clause}
 use Rattle.pn_join.specs.Blocks.{in_blocks}
 use Rattle.pn_join.specs.Leaves.{leaf_for}
 use Rattle.pn_join.proofs.BlockFacts.{block_ends_below, blocks_parted, block_searched}
-use Rattle.pn_join.proofs.Partitions.{prefix_at}
+use Rattle.pn_join.proofs.Rising.{prefix_at}
 use Rattle.pn_join.proofs.table.block_list.BlockList.search_block.Goals as goal
 
 pub returns-clause-block : goal.returns-clause-block

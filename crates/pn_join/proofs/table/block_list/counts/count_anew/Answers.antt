@@ -1,6 +1,6 @@
 -- One more block is counted.
 use Rattle.std.proofs.Common.{◌≡◌, take, arith}
-use Rattle.pn_join.proofs.BlockCounts.{entries_fit, leaves_fit, one_counted}
+use Rattle.pn_join.proofs.BlockGrowth.{entries_fit, leaves_fit, one_counted}
 use Rattle.pn_join.proofs.BlockFacts.{take_whole}
 use Rattle.pn_join.proofs.table.block_list.counts.count_anew.Goals as goal
 

@@ -1,5 +1,5 @@
 use Rattle.std.proofs.Common.{◌≡◌, ◌≤◌, length, vec_len, vec_capacity}
-use Rattle.pn_join.proofs.BlockCounts.{CountedSoFar}
+use Rattle.pn_join.proofs.BlockGrowth.{CountedSoFar}
 use Rattle.pn_join.proofs.table.block_list.counts.count_anew.Given as goal
 
 abbrev pub invariant-loop-block : goal.invariant-loop-block

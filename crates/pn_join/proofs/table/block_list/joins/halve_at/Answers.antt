@@ -1,8 +1,8 @@
 -- The front stays in the block's place, and the back comes after it.
 use Rattle.std.proofs.Common.{◌≡◌, suc, ◌+◌, ◌<◌, [], length, get_or, set, insert, ap, ◌∙◌, sym, arith, rules}
 use Rattle.pn_join.specs.Leaves.{all_entries}
-use Rattle.pn_join.proofs.BlockCounts.{within_some}
-use Rattle.pn_join.proofs.BlockHalfSteps.{just_set}
+use Rattle.pn_join.proofs.BlockGrowth.{within_some}
+use Rattle.pn_join.proofs.BlockHalves.{just_set}
 use Rattle.pn_join.proofs.LeafListFacts.{same_at}
 use Rattle.pn_join.proofs.table.block_list.joins.halve_at.Goals as goal
 

@@ -1,11 +1,10 @@
 -- The block grows by what the join adds.
 use Rattle.std.proofs.Common.{◌≡◌, [], length, get_or, ap, ◌∙◌, refl, arith}
-use Rattle.pn_join.specs.Leaves.{all_entries, IsLeafList}
-use Rattle.pn_join.specs.PutInLeaves.{IsPutOf, ChangesOneLeaf}
-use Rattle.pn_join.proofs.BlockHalfSteps.{just_set}
+use Rattle.pn_join.specs.Leaves.{all_entries, IsLeafList, IsPutOf, ChangesOneLeaf}
+use Rattle.pn_join.proofs.BlockHalves.{just_set}
 use Rattle.pn_join.proofs.BlockJoin.{changes_grow}
 use Rattle.pn_join.proofs.LeafListFacts.{same_at}
-use Rattle.pn_join.proofs.PutFacts.{length-grows}
+use Rattle.pn_join.proofs.Puts.{length-grows}
 use Rattle.pn_join.proofs.table.block_list.joins.join_at.Goals as goal
 
 pub overflow_sub-result : goal.overflow_sub-result

@@ -2,7 +2,7 @@
 use Rattle.std.proofs.Common.{◌≡◌, ◌<◌, [], length, get_or, set, refl, ap, ◌∙◌, arith, rules}
 use Rattle.pn_join.specs.Edits.{changes_in}
 use Rattle.pn_join.specs.Leaves.{all_entries}
-use Rattle.pn_join.specs.TableChanges.{puts}
+use Rattle.pn_join.specs.Tables.{puts}
 use Rattle.pn_join.proofs.LeafListFacts.{same_at}
 use Rattle.pn_join.proofs.TakenFacts.{put_again}
 use Rattle.pn_join.proofs.table.block_list.taking.take_block.Goals as goal

@@ -1,6 +1,6 @@
 -- The state is caught up.
 use Rattle.std.proofs.Common.{sym, ap, ◌∙◌}
-use Rattle.pn_live.specs.Drafts.{caught_up}
+use Rattle.pn_live.specs.Attempts.{caught_up}
 use Rattle.pn_live.proofs.live_tablet.state_draft.StateDraft.into_state.Goals as goal
 
 pub returns-in-None : goal.returns-in-None

@@ -1,8 +1,8 @@
 -- The draft is the state after the join that it lacks.
 use Rattle.std.proofs.Common.{subst}
 use Rattle.pn_tablet.specs.Tablets.{TabletStateValue}
-use Rattle.pn_live.specs.Drafts.{caught_up}
-use Rattle.pn_live.proofs.Joining.{Applies}
+use Rattle.pn_live.specs.Attempts.{caught_up}
+use Rattle.pn_live.proofs.Appending.{Applies}
 use Rattle.pn_live.proofs.live_tablet.state_draft.StateDraftSlot.apply.Goals as goal
 
 pub returns : goal.returns

@@ -1,6 +1,6 @@
 -- The members of the counts follow one another.
-use Rattle.pn_protocol.specs.Reply.LineStats.{line_counts_data}
-use Rattle.pn_json.proofs.TokenLists.{appends_token, appends_both}
+use Rattle.pn_protocol.specs.Reply.Stats.{line_counts_data}
+use Rattle.pn_json.proofs.AppendedTexts.{appends_token, appends_both}
 use Rattle.pn_protocol.proofs.reply.line_stats.LineCounts.write.Goals as goal
 
 pub returns : goal.returns

@@ -1,6 +1,6 @@
 -- A piece from the cursor that the text is at.
 use Rattle.std.proofs.Common.{ℕ, List, subst}
-use Rattle.pn_json.specs.AppendedText.{MakesPiece}
+use Rattle.pn_json.specs.Tokens.{MakesPiece}
 use Rattle.pn_protocol.specs.Reply.Making.{end_of, found_in, cursor_rest}
 use Rattle.pn_protocol.proofs.reply.rows_text.RowsText.append_piece.Goals as goal
 

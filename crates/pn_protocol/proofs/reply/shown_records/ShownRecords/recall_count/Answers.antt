@@ -2,7 +2,7 @@
 use Rattle.std.proofs.Common.{◌<◌, length, sym, subst, arith}
 use Rattle.pn_protocol.specs.declared.reply.shown_records.ShownRecords.{ShownRecords}
 use Rattle.pn_protocol.specs.Reply.Making.{found_in}
-use Rattle.pn_protocol.proofs.ShownRecords.{length-zip_le}
+use Rattle.pn_protocol.proofs.MadeReplies.{length-zip_le}
 use Rattle.pn_protocol.proofs.reply.shown_records.ShownRecords.recall_count.Goals as goal
 
 pub returns-in-Keys : goal.returns-in-Keys

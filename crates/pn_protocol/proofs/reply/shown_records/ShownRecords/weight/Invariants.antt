@@ -1,8 +1,7 @@
 -- The weight of the records so far.
 use Rattle.std.proofs.Common.{◌≡◌, ◌≤◌, ◌-◌, ◌^◌, length, min, take}
 use Rattle.std.specs.List.{sum_by}
-use Rattle.pn_protocol.specs.Reply.Making.{found_in}
-use Rattle.pn_protocol.specs.Reply.Weights.{found_weight}
+use Rattle.pn_protocol.specs.Reply.Making.{found_in, found_weight}
 use Rattle.pn_protocol.proofs.reply.shown_records.ShownRecords.weight.Given as goal
 
 abbrev pub invariant-records : goal.invariant-records

@@ -1,6 +1,6 @@
 -- The members of the connections follow one another.
 use Rattle.pn_protocol.specs.Reply.Stats.{connections_data}
-use Rattle.pn_json.proofs.TokenLists.{appends_token, appends_both}
+use Rattle.pn_json.proofs.AppendedTexts.{appends_token, appends_both}
 use Rattle.pn_protocol.proofs.reply.stats.ConnectionStats.write.Goals as goal
 
 pub returns : goal.returns

@@ -5,12 +5,9 @@ use Rattle.serde_json.specs.View.{items_of}
 use Rattle.pn_protocol.specs.declared.reply.stats.Stats.{Stats}
 use Rattle.pn_protocol.specs.declared.reply.stats.StreamStats.{StreamStats}
 use Rattle.pn_protocol.specs.declared.reply.stats.TabletStats.{TabletStats}
-use Rattle.pn_protocol.specs.Reply.LineStats.{count, lines_data}
-use Rattle.pn_protocol.specs.Reply.Stats.{connections_data, stats_data, stream_data, tablet_data}
-use Rattle.pn_protocol.specs.Reply.TimeStats.{times_data}
-use Rattle.pn_protocol.specs.Reply.UnreadStats.{unread_data}
+use Rattle.pn_protocol.specs.Reply.Stats.{count, lines_data, connections_data, stats_data, stream_data, tablet_data, times_data, unread_data}
 use Rattle.pn_json.specs.Tokens.{value_tokens}
-use Rattle.pn_json.proofs.TokenLists.{appends_token, appends_both, appends_as}
+use Rattle.pn_json.proofs.AppendedTexts.{appends_token, appends_both, appends_as}
 use Rattle.pn_protocol.proofs.reply.stats.StatsShown.write.Goals as goal
 
 -- what a server has done so far, with these streams and tablets

@@ -4,13 +4,12 @@ use Rattle.std.specs.Prelude.{String}
 use Rattle.std.specs.declared.alloc.Global.{Global}
 use Rattle.serde_json.specs.Data.{Data, object, string, member, no_members}
 use Rattle.pn_protocol.specs.declared.reply.stats.StreamFaultStats.{StreamFaultStats}
-use Rattle.pn_protocol.specs.Reply.LineStats.{count}
-use Rattle.pn_protocol.specs.Reply.Stats.{fault_line, fault_reason, number_or_null, stream_data, text_or_null}
+use Rattle.pn_protocol.specs.Reply.Stats.{count, fault_line, fault_reason, number_or_null, stream_data, text_or_null}
 use Rattle.pn_json.specs.Tokens.{value_tokens}
-use Rattle.pn_json.proofs.TokenLists.{appends_token, appends_both, appends_as}
+use Rattle.pn_json.proofs.AppendedTexts.{appends_token, appends_both, appends_as}
 use Rattle.pn_protocol.proofs.reply.stats.StreamStatsShown.write.Goals as goal
 
--- a stream of these texts and numbers, with its fault, when something was heard or came, and what a writer said
+-- a stream of these texts and numbers, with its fault, when something was heard or came, and what a publisher said
 abbrev stream_of : List ℕ → List ℕ → List ℕ → ℕ × ℕ × ℕ → Option StreamFaultStats → Option ℕ × Option ℕ × Option ℕ → Option (String Global) → Data
 stream_of name path state (bytes, messages, position) fault (heard, newest, since) said =
     object (count (codes "bytes") bytes

@@ -1,7 +1,7 @@
 -- A piece of the head, or of the rest.
 use Rattle.std.proofs.Common.{◌++◌, ℕ, List, drop, subst, arith}
-use Rattle.pn_json.specs.AppendedText.{MakesPiece}
-use Rattle.pn_protocol.specs.Reply.Pieces.{head_bytes, rest_bytes}
+use Rattle.pn_json.specs.Tokens.{MakesPiece}
+use Rattle.pn_protocol.specs.Reply.Texts.{head_bytes, rest_bytes}
 use Rattle.pn_protocol.proofs.MadeReplies.{head_part, rest_part}
 use Rattle.pn_protocol.proofs.reply.text.ReplyText.append_piece.Goals as goal
 

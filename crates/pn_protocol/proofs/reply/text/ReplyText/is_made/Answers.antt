@@ -2,7 +2,7 @@
 use Rattle.std.proofs.Common.{◌≡◌, ◌<◌, ◌≤◌, ℕ, List, [], length, ap, ◌∙◌, subst, arith}
 use Rattle.std.specs.Prelude.{◌↔◌, IsTrue}
 use Rattle.std.proofs.lemmas.Bool.{false≢true}
-use Rattle.pn_protocol.specs.Reply.Pieces.{head_bytes, rest_bytes}
+use Rattle.pn_protocol.specs.Reply.Texts.{head_bytes, rest_bytes}
 use Rattle.pn_protocol.proofs.MadeReplies.{head_left, rest_left}
 use Rattle.pn_protocol.proofs.reply.text.ReplyText.is_made.Goals as goal
 

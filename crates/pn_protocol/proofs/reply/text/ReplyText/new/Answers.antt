@@ -1,6 +1,6 @@
 -- What each reply begins with, and what comes after that.
 use Rattle.std.proofs.Common.{◌++◌, ℕ, List, [], ◌∷◌, codes, zip, false, ap, ◌∙◌, append-nil}
-use Rattle.pn_json.specs.Lines.{line_of}
+use Rattle.pn_json.specs.Tokens.{line_of}
 use Rattle.pn_protocol.specs.Reply.Making.{rows_text}
 use Rattle.pn_protocol.specs.Reply.Short.{lines_data}
 use Rattle.pn_protocol.proofs.MadeReplies.{get_made, read_made}
@@ -8,7 +8,7 @@ use Rattle.pn_protocol.proofs.reply.text.ReplyText.new.Goals as goal
 
 pub returns-in-Copy : goal.returns-in-Copy
 returns-in-Copy c =
-    rw c.in-Copy.is (c.of.ensures ∙ ap (λ (line : List ℕ). line ++ c.in-Copy.copy.left) (c.number_reply-lines.ensures ∙ ap (λ (n : ℕ). line_of (lines_data n)) c.lines.ensures))
+    rw c.in-Copy.is (c.of.ensures ∙ ap (λ (line : List ℕ). line ++ c.in-Copy.copy.left) (c.number_reply-lines.ensures ∙ ap (λ (n : ℕ). line_of (lines_data n)) c.line_count.ensures))
 
 pub returns-in-NotTaken : goal.returns-in-NotTaken
 returns-in-NotTaken c = rw c.in-NotTaken.is (c.of-in-NotTaken.ensures ∙ append-nil c.in-NotTaken.text.items)

@@ -1,9 +1,9 @@
 -- Nothing, or a piece of the rows or of the lines.
 use Rattle.std.proofs.Common.{◌≤◌, sym, ap, subst, arith}
-use Rattle.pn_json.specs.AppendedText.{MakesPiece}
+use Rattle.pn_json.specs.Tokens.{MakesPiece}
 use Rattle.pn_json.proofs.AppendedTexts.{piece_within}
 use Rattle.pn_protocol.specs.declared.reply.text.Rest.{Rest}
-use Rattle.pn_protocol.specs.Reply.Pieces.{rest_bytes}
+use Rattle.pn_protocol.specs.Reply.Texts.{rest_bytes}
 use Rattle.pn_protocol.proofs.MadeRows.{nothing_made}
 use Rattle.pn_protocol.proofs.reply.text.Rest.append_piece.Goals as goal
 

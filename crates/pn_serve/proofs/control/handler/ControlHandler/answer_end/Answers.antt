@@ -4,8 +4,8 @@ use Rattle.pn_live.specs.Readers.{LiveReaderValue}
 use Rattle.pn_serve.specs.declared.control.stop.StopSaid.{StopSaid}
 use Rattle.pn_serve.specs.Control.Lines.{ControlState, after_step}
 use Rattle.pn_serve.specs.Control.Steps.{StepsLast}
-use Rattle.pn_serve.specs.Machine.Modes.{bytes_of, mode_of}
-use Rattle.pn_serve.specs.Session.Knowing.{KnowsNoLess}
+use Rattle.pn_serve.specs.Machine.Outcomes.{bytes_of, mode_of}
+use Rattle.pn_serve.specs.Session.Resuming.{KnowsNoLess}
 use Rattle.pn_serve.proofs.ControlLines.{ends_announced, ends_command, ends_nothing, knows_after, same_but}
 use Rattle.pn_serve.proofs.ControlSteps.{last_knows}
 use Rattle.pn_serve.proofs.Lookups.{no_length, some_length}

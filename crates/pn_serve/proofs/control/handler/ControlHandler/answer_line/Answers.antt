@@ -3,8 +3,8 @@ use Rattle.std.proofs.Common.{refl, sym, ap, ◌∙◌, subst}
 use Rattle.pn_live.specs.Readers.{LiveReaderValue}
 use Rattle.pn_serve.specs.Control.Lines.{ControlState, after_step}
 use Rattle.pn_serve.specs.Control.Steps.{StepsBy}
-use Rattle.pn_serve.specs.Machine.Modes.{bytes_of, mode_of}
-use Rattle.pn_serve.specs.Session.Knowing.{KnowsNoLess}
+use Rattle.pn_serve.specs.Machine.Outcomes.{bytes_of, mode_of}
+use Rattle.pn_serve.specs.Session.Resuming.{KnowsNoLess}
 use Rattle.pn_serve.proofs.ControlLines.{answers_command, answers_more, answers_whole, knows_after, more_state}
 use Rattle.pn_serve.proofs.ControlSteps.{steps_know}
 use Rattle.pn_serve.proofs.Knowing.{knows_itself, knows_same}

@@ -3,7 +3,7 @@ use Rattle.std.proofs.Common.{ℕ, sym, subst}
 use Rattle.std.specs.Prelude.{Option, Vec}
 use Rattle.std.specs.declared.alloc.Global.{Global}
 use Rattle.pn_serve.specs.Control.Steps.{AdoptsText}
-use Rattle.pn_serve.specs.Machine.Modes.{bytes_of}
+use Rattle.pn_serve.specs.Machine.Outcomes.{bytes_of}
 use Rattle.pn_serve.specs.declared.control.steps.ControlStep.TheVariants.{Replies}
 use Rattle.pn_serve.proofs.ControlSteps.{read_copy, read_fault}
 use Rattle.pn_serve.proofs.control.session.ControlSession.adopt.Goals as goal

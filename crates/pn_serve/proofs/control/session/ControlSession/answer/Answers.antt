@@ -1,8 +1,7 @@
 -- What a session begins with, and the reader that it gives back.
 use Rattle.std.proofs.Common.{subst}
-use Rattle.pn_serve.specs.Control.Ends.{ControlEnds}
-use Rattle.pn_serve.specs.Control.Lines.{ControlState}
-use Rattle.pn_lines.specs.Ends.{start_at}
+use Rattle.pn_serve.specs.Control.Lines.{ControlEnds, ControlState}
+use Rattle.pn_lines.specs.Driving.{start_at}
 use Rattle.pn_serve.proofs.ControlEnds.{client_knows}
 use Rattle.pn_serve.proofs.control.session.ControlSession.answer.Goals as goal
 

@@ -1,7 +1,7 @@
 -- What was read of known bytes was added.
 use Rattle.std.proofs.Common.{◌++◌, ◌∷◌, [], ◌∙◌, ap, refl}
-use Rattle.pn_serve.specs.Copies.Lines.{CopyTextsValue}
-use Rattle.pn_serve.proofs.CopyLines.{adds-by, adds-line, adds-none, adds-part}
+use Rattle.pn_serve.specs.Copies.Cutting.{CopyTextsValue}
+use Rattle.pn_serve.proofs.CopyTexts.{adds-by, adds-line, adds-none, adds-part}
 use Rattle.pn_serve.proofs.copies.texts.CopyTexts.add_line.Goals as goal
 use Rattle.pn_serve.proofs.copies.texts.CopyTexts.add_line.Goals.{in-TooLong, in-EndOfInput+in_ok-add_bytes-in-EndOfInput, in-Newline+in_ok-add_bytes-in-Newline+in_ok-add_bytes-in-Newline-2}
 

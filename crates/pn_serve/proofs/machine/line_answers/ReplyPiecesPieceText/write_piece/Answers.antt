@@ -1,6 +1,6 @@
 -- A piece of the text was made after what the buffer held.
 use Rattle.std.proofs.Common.{arith, sym, ◌∙◌}
-use Rattle.pn_serve.proofs.TextPieces.{gives_none, gives_piece, true_false}
+use Rattle.pn_serve.proofs.Lookups.{gives_none, gives_piece, true_false}
 use Rattle.pn_serve.proofs.machine.line_answers.ReplyPiecesPieceText.write_piece.Goals as goal
 
 pub returns-then-is_made-clause-gives : goal.returns-then-is_made-clause-gives

@@ -1,9 +1,8 @@
 -- The end of the input was answered by the region, which waits for a command then.
 use Rattle.std.proofs.Common.{sym, ap, ◌∙◌, subst}
-use Rattle.pn_serve.specs.Machine.Answers.{Concludes}
-use Rattle.pn_serve.specs.Machine.Modes.{with_mode}
-use Rattle.pn_serve.specs.Machine.Outcomes.{Machine, machine_over}
-use Rattle.pn_serve.proofs.LongLines.{concludes_kept}
+use Rattle.pn_serve.specs.Machine.Turns.{Concludes}
+use Rattle.pn_serve.specs.Machine.Outcomes.{with_mode, Machine, machine_over}
+use Rattle.pn_serve.proofs.Serving.{concludes_kept}
 use Rattle.pn_serve.proofs.machine.script_handler.ScriptHandler.answer_end.Goals as goal
 
 pub returns : goal.returns

@@ -1,9 +1,8 @@
 -- The line was answered by the region.
 use Rattle.std.proofs.Common.{ap, ◌∙◌, subst}
-use Rattle.pn_serve.specs.Machine.Answers.{Answers}
-use Rattle.pn_serve.specs.Machine.Modes.{with_mode}
-use Rattle.pn_serve.specs.Machine.Outcomes.{Machine}
-use Rattle.pn_serve.proofs.LongLines.{answers_kept}
+use Rattle.pn_serve.specs.Machine.Turns.{Answers}
+use Rattle.pn_serve.specs.Machine.Outcomes.{with_mode, Machine}
+use Rattle.pn_serve.proofs.Serving.{answers_kept}
 use Rattle.pn_serve.proofs.machine.script_handler.ScriptHandler.answer_line.Goals as goal
 
 pub returns : goal.returns

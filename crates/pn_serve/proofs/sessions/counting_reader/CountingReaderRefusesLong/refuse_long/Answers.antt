@@ -1,9 +1,9 @@
 -- A line that is too long is refused, whatever its bytes are.
 use Rattle.std.proofs.Common.{sym, subst}
 use Rattle.pn_live.specs.Readers.{LiveReaderValue}
-use Rattle.pn_lines.specs.Replies.{Replied}
-use Rattle.pn_serve.specs.Lines.Handled.{Replies}
-use Rattle.pn_serve.specs.Session.Knowing.{KnowsNoLess}
+use Rattle.pn_lines.specs.Handling.{Replied}
+use Rattle.pn_serve.specs.Lines.{Replies}
+use Rattle.pn_serve.specs.Session.Resuming.{KnowsNoLess}
 use Rattle.pn_serve.specs.Session.Lines.{AnswersLine, EndsLines}
 use Rattle.pn_serve.proofs.Knowing.{knows_itself}
 use Rattle.pn_serve.proofs.Lookups.{refuses_by}

@@ -1,6 +1,5 @@
 use Rattle.std.proofs.Common.{ap, ◌∙◌}
-use Rattle.pn_join.specs.LeafEntries.{leaves_of}
-use Rattle.pn_join.specs.Leaves.{all_entries}
+use Rattle.pn_join.specs.Leaves.{leaves_of, all_entries}
 use Rattle.pn_join.proofs.EditJoins.{list_sorted, list_together}
 use Rattle.pn_join.proofs.table.block.opening.OpenBlock.finish.Goals as goal
 

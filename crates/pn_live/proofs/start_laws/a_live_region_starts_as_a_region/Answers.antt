@@ -1,6 +1,0 @@
--- The law is a lemma.
-use Rattle.pn_live.proofs.Starting.{starts_from}
-use Rattle.pn_live.proofs.start_laws.a_live_region_starts_as_a_region.Goals as goal
-
-pub returns : goal.returns
-returns c = starts_from

@@ -1,6 +1,0 @@
--- The law is a lemma.
-use Rattle.pn_live.proofs.StartFaults.{all_adopted}
-use Rattle.pn_live.proofs.start_laws.the_copies_of_all_tablets_are_adopted.Goals as goal
-
-pub returns : goal.returns
-returns c = all_adopted

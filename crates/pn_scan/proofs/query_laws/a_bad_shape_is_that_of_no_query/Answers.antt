@@ -1,5 +1,0 @@
-use Rattle.pn_scan.proofs.QueryFaults.{bad_shape}
-use Rattle.pn_scan.proofs.query_laws.a_bad_shape_is_that_of_no_query.Goals as goal
-
-pub returns : goal.returns
-returns c = bad_shape

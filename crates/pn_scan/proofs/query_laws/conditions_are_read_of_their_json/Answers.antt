@@ -1,5 +1,0 @@
-use Rattle.pn_scan.proofs.SameConditions.{conditions_alone}
-use Rattle.pn_scan.proofs.query_laws.conditions_are_read_of_their_json.Goals as goal
-
-pub returns : goal.returns
-returns c = conditions_alone
