@@ -4,14 +4,14 @@ use Rattle.std.specs.List.{AllByRecursion, prefix_len}
 use Rattle.std.specs.List.Sorted.{IsPartitionedBy}
 use Rattle.std.specs.Cmp.{IsTotalOrder}
 use Rattle.std.specs.FinMap.{find}
-use Rattle.std.proofs.lemmas.List.{length-append}
+use Rattle.std.proofs.lemmas.List.{length-append, drop-drop}
 use Rattle.std.proofs.lemmas.List.Concat.{flat_map-append}
 use Rattle.pn_join.specs.Blocks.{in_blocks, entries_in, AreBlocks}
 use Rattle.pn_join.specs.Leaves.{all_entries, counts_after, begins_below, ends_below, leaf_for, IsLeaf, IsLeafList}
-use Rattle.pn_join.proofs.Rising.{each_prefix, each_back, each_weaker, Rising, Rising-from_sorted}
-use Rattle.pn_join.proofs.EditSteps.{each_at}
-use Rattle.pn_join.proofs.LeafListFacts.{leaf_at, leaf_at-prefix, entry_in_list, rest_in_list}
+use Rattle.pn_join.proofs.Each.{each_at, each_prefix, each_back, each_weaker}
+use Rattle.pn_join.proofs.LeafListIndices.{leaf_at, leaf_at-prefix, entry_in_list, rest_in_list}
 use Rattle.pn_join.proofs.LeafListSearch.{parted, leaf_for-search, find_in_list}
+use Rattle.pn_join.proofs.Rising.{Rising, Rising-from_sorted}
 
 pub take_whole : {A : Type 0} (xs : List A) (n : ℕ) → length xs ≤ n → take n xs ≡ xs
 take_whole [] zero le = refl
@@ -187,3 +187,16 @@ module _ {K X : Type 0} (cmp : K → K → Ordering) (key : K) where
   begins_at_first [] some = refl
   begins_at_first ([] ∷ ls) some = absurd (omega (arith, some.0))
   begins_at_first ((e ∷ es) ∷ ls) some = refl
+
+-- entries that begin a list, and those that follow
+module _ {A : Type 0} where
+  drop_first : (first rest : List A) → drop (length first) (first ++ rest) ≡ rest
+  drop_first [] rest = refl
+  drop_first (x ∷ first) rest = drop_first first rest
+
+  pub first_of_rest : (all first rest : List A) (index : ℕ) → drop index all ≡ first ++ rest → drop index all ≡ first ++ drop (index + length first) all
+  first_of_rest all first rest index is =
+      is ∙ ap (λ es. first ++ es) (sym (drop_first first rest) ∙ ap (drop (length first)) (sym is) ∙ drop-drop (length first) index all)
+
+  pub none_of_rest : (all none : List A) (index : ℕ) → none ≡ [] → drop index all ≡ none ++ drop (index + length none) all
+  none_of_rest all none index is = rw is (let same : index ≡ index + 0 = omega arith in ap (λ n. drop n all) same)

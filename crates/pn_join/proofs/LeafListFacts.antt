@@ -1,139 +1,21 @@
--- The leaf of an index, what searches in a list's leaves return, and a join of one entry.
-use Rattle.std.proofs.Common.{◌≡◌, ℕ, zero, suc, ◌+◌, ◌-◌, ◌<◌, ◌≤◌, true, false, cond, leb, List, [], ◌∷◌, ◌++◌, length, get_or, take, drop, slice_get, refl, sym, ap, ◌∙◌, arith, append-nil, Bool, min, Ordering, ◌^◌, set, Some, option_map}
-use Rattle.std.specs.List.{prefix_len, AllByRecursion}
-use Rattle.std.specs.List.Sorted.{IsNonDecreasingBy, IsPartitionedBy}
-use Rattle.std.proofs.lemmas.List.{length-append}
-use Rattle.std.proofs.lemmas.Bool.Decides.{nat_tests}
-use Rattle.std.specs.Cmp.{IsTotalOrder}
-use Rattle.std.specs.FinMap.{find, put}
-use Rattle.pn_join.specs.Leaves.{all_entries, counts_after, ends_below, leaf_for, IsLeaf, IsLeafList, AreEntryCounts, leaf_entries, leaves_of, IsPutOf, with_back, counts_with}
-use Rattle.pn_join.specs.declared.table.leaf.Leaf.{Leaf}
-use Rattle.pn_join.specs.Tables.{IsTable, optional_joined}
-use Rattle.pn_join.proofs.Rising.{each_weaker, each_prefix, each_back, get_or-leaves, prefix_len-map, Rising, Rising-from_sorted, sorted_from_Rising}
-use Rattle.pn_join.proofs.LeafListSearch.{parted, leaf_for-search, leaf_for-within, find_in_list, Rising-leaf, put_in_list}
-use Rattle.pn_join.specs.declared.table.leaf_join.TheConstants.{MAX_LEAF_ENTRIES}
-use Rattle.pn_join.proofs.Puts.{length-by_one, IsTable-new}
-use Rattle.pn_join.proofs.LeafListEdits.{counts_with_back, all_with_back, each_with_back}
-
--- The leaf of an index among all entries.
-
-module _ {A : Type 0} where
-  drop_none : (n : ℕ) → drop {A = A} n [] ≡ []
-  drop_none zero = refl
-  drop_none (suc n) = refl
-
-  slice_get_left : (xs ys : List A) (i : ℕ) → i < length xs → slice_get (xs ++ ys) i ≡ slice_get xs i
-  slice_get_left [] ys i lt = absurd (omega (arith, lt))
-  slice_get_left (x ∷ xs) ys zero lt = refl
-  slice_get_left (x ∷ xs) ys (suc i) lt = slice_get_left xs ys i (omega (arith, lt))
-
-  slice_get_right : (xs ys : List A) (i : ℕ) → length xs ≤ i → slice_get (xs ++ ys) i ≡ slice_get ys (i - length xs)
-  slice_get_right [] ys i le = ap (slice_get ys) (omega arith)
-  slice_get_right (x ∷ xs) ys zero le = absurd (omega (arith, le))
-  slice_get_right (x ∷ xs) ys (suc i) le = slice_get_right xs ys i (omega (arith, le)) ∙ ap (slice_get ys) (omega arith)
-
-  drop_left : (xs ys : List A) (i : ℕ) → i < length xs → drop i (xs ++ ys) ≡ drop i xs ++ ys
-  drop_left [] ys i lt = absurd (omega (arith, lt))
-  drop_left (x ∷ xs) ys zero lt = refl
-  drop_left (x ∷ xs) ys (suc i) lt = drop_left xs ys i (omega (arith, lt))
-
-  drop_right : (xs ys : List A) (i : ℕ) → length xs ≤ i → drop i (xs ++ ys) ≡ drop (i - length xs) ys
-  drop_right [] ys i le = ap (λ n. drop n ys) (omega arith)
-  drop_right (x ∷ xs) ys zero le = absurd (omega (arith, le))
-  drop_right (x ∷ xs) ys (suc i) le = drop_right xs ys i (omega (arith, le)) ∙ ap (λ n. drop n ys) (omega arith)
-
-  -- the count up to a leaf's end
-  pub end_at : (m : ℕ) (list : List (List A)) (i : ℕ) → i < length list → (d : ℕ) → get_or (counts_after m list) i d ≡ m + length (all_entries (take (suc i) list))
-  end_at m [] i lt d = absurd (omega (arith, lt))
-  end_at m (l ∷ ls) zero lt d = omega (arith, length-append l [])
-  end_at m (l ∷ ls) (suc i) lt d = omega (arith, end_at (m + length l) ls i (omega (arith, lt)) d, length-append l (all_entries (take (suc i) ls)))
-
-  pub length-counts : (m : ℕ) (list : List (List A)) → length (counts_after m list) ≡ length list
-  length-counts m [] = refl
-  length-counts m (l ∷ ls) = ap suc (length-counts (m + length l) ls)
-
-  counts_above : (m : ℕ) (list : List (List A)) (j d : ℕ) → j < length (counts_after m list) → m ≤ get_or (counts_after m list) j d
-  counts_above m [] j d lt = absurd (omega (arith, lt))
-  counts_above m (l ∷ ls) zero d lt = omega arith
-  counts_above m (l ∷ ls) (suc j) d lt = omega (arith, counts_above (m + length l) ls j d (omega (arith, lt)))
-
-  pub counts_rise : (m : ℕ) (list : List (List A)) → IsNonDecreasingBy (λ n. n) (counts_after m list)
-  counts_rise m [] i j d le lt = absurd (omega (arith, lt))
-  counts_rise m (l ∷ ls) zero zero d le lt = omega arith
-  counts_rise m (l ∷ ls) zero (suc j) d le lt = counts_above (m + length l) ls j d (omega (arith, lt))
-  counts_rise m (l ∷ ls) (suc i) zero d le lt = absurd (omega (arith, le))
-  counts_rise m (l ∷ ls) (suc i) (suc j) d le lt = counts_rise (m + length l) ls i j d (omega (arith, le)) (omega (arith, lt))
-
-  -- the leaf of an index: the first that ends after it
-  abbrev pub leaf_at : ℕ → ℕ → List (List A) → ℕ
-  leaf_at m index [] = 0
-  leaf_at m index (l ∷ ls) = cond (leb (m + length l) index) (suc (leaf_at (m + length l) index ls)) 0
-
-  pub leaf_at-prefix : (m index : ℕ) (list : List (List A)) → prefix_len (λ end. leb end index) (counts_after m list) ≡ leaf_at m index list
-  leaf_at-prefix m index [] = refl
-  leaf_at-prefix m index (l ∷ ls) =
-      ap (λ n. cond (leb (m + length l) index) n 0) (one_more (prefix_len (λ end. leb end index) (counts_after (m + length l) ls)) ∙ ap suc (leaf_at-prefix (m + length l) index ls)) where
-        one_more : (n : ℕ) → 1 + n ≡ suc n
-        one_more n = omega arith
-
-  pub entry_in_list : (m index : ℕ) (list : List (List A)) → slice_get (all_entries list) index ≡ slice_get (get_or list (leaf_at m (m + index) list) []) (index - length (all_entries (take (leaf_at m (m + index) list) list)))
-  entry_in_list m index [] = refl
-  entry_in_list m index (l ∷ ls) =
-      elim (leb (m + length l) (m + index)) as (λ b. leb (m + length l) (m + index) ≡ b → slice_get (l ++ all_entries ls) index ≡ slice_get (get_or (l ∷ ls) (cond b (suc (leaf_at (m + length l) (m + index) ls)) 0) []) (index - length (all_entries (take (cond b (suc (leaf_at (m + length l) (m + index) ls)) 0) (l ∷ ls))))) [
-        | true ↦ λ p.
-            let le : length l ≤ index = grind (arith, nat_tests) in
-            let at : (m + length l) + (index - length l) ≡ m + index = omega (arith, le) in
-            let j = leaf_at (m + length l) (m + index) ls in
-            let here = rw at at (entry_in_list (m + length l) (index - length l) ls) in
-            let left : (index - length l) - length (all_entries (take j ls)) ≡ index - length (l ++ all_entries (take j ls)) = omega (arith, length-append l (all_entries (take j ls))) in
-            slice_get_right l (all_entries ls) index le ∙ here
-            ∙ ap (slice_get (get_or ls j [])) left
-        | false ↦ λ p.
-            let lt : index < length l = grind (arith, nat_tests) in
-            let same : index ≡ index - 0 = omega arith in
-            slice_get_left l (all_entries ls) index lt ∙ ap (slice_get l) same
-      ] refl
-
-  pub rest_in_list : (m index : ℕ) (list : List (List A)) → drop index (all_entries list) ≡ drop (index - length (all_entries (take (leaf_at m (m + index) list) list))) (get_or list (leaf_at m (m + index) list) []) ++ all_entries (drop (suc (leaf_at m (m + index) list)) list)
-  rest_in_list m index [] = drop_none index ∙ sym (append-nil (drop (index - 0) []) ∙ drop_none (index - 0))
-  rest_in_list m index (l ∷ ls) =
-      elim (leb (m + length l) (m + index)) as (λ b. leb (m + length l) (m + index) ≡ b → drop index (l ++ all_entries ls) ≡ drop (index - length (all_entries (take (cond b (suc (leaf_at (m + length l) (m + index) ls)) 0) (l ∷ ls)))) (get_or (l ∷ ls) (cond b (suc (leaf_at (m + length l) (m + index) ls)) 0) []) ++ all_entries (drop (suc (cond b (suc (leaf_at (m + length l) (m + index) ls)) 0)) (l ∷ ls))) [
-        | true ↦ λ p.
-            let le : length l ≤ index = grind (arith, nat_tests) in
-            let at : (m + length l) + (index - length l) ≡ m + index = omega (arith, le) in
-            let j = leaf_at (m + length l) (m + index) ls in
-            let here = rw at at (rest_in_list (m + length l) (index - length l) ls) in
-            let left : (index - length l) - length (all_entries (take j ls)) ≡ index - length (l ++ all_entries (take j ls)) = omega (arith, length-append l (all_entries (take j ls))) in
-            drop_right l (all_entries ls) index le ∙ here
-            ∙ ap (λ n. drop n (get_or ls j []) ++ all_entries (drop (suc j) ls)) left
-        | false ↦ λ p.
-            let lt : index < length l = grind (arith, nat_tests) in
-            let same : index ≡ index - 0 = omega arith in
-            drop_left l (all_entries ls) index lt ∙ ap (λ n. drop n l ++ all_entries ls) same
-      ] refl
-
-  -- a leaf lies within the list
-  pub leaf_within : (list : List (List A)) (i : ℕ) → length (all_entries (take i list)) + length (get_or list i []) ≤ length (all_entries list)
-  leaf_within [] zero = omega arith
-  leaf_within [] (suc i) = omega arith
-  leaf_within (l ∷ ls) zero = omega (arith, length-append l (all_entries ls))
-  leaf_within (l ∷ ls) (suc i) = omega (arith, length-append l (all_entries ls), length-append l (all_entries (take i ls)), leaf_within ls i)
-
 -- What searches in a list's leaves and entry counts return.
-
-pub length-leaves : {K X : Type 0} (leaves : List (Leaf K X)) → length (leaves_of leaves) ≡ length leaves
-length-leaves [] = refl
-length-leaves (l ∷ ls) = ap suc (length-leaves ls)
+use Rattle.std.proofs.Common.{◌≡◌, ℕ, zero, suc, ◌+◌, ◌-◌, ◌<◌, ◌≤◌, Bool, leb, List, [], ◌∷◌, length, get_or, take, min, Ordering, refl, sym, ap, ◌∙◌, arith}
+use Rattle.std.specs.List.{AllByRecursion, prefix_len}
+use Rattle.std.specs.List.Sorted.{IsPartitionedBy}
+use Rattle.std.specs.Cmp.{IsTotalOrder}
+use Rattle.std.specs.FinMap.{find}
+use Rattle.pn_join.specs.Leaves.{all_entries, counts_after, ends_below, leaf_for, IsLeaf, IsLeafList}
+use Rattle.pn_join.specs.Tables.{IsTable}
+use Rattle.pn_join.proofs.Each.{each_weaker, each_prefix, each_back}
+use Rattle.pn_join.proofs.Rising.{Rising, Rising-from_sorted, sorted_from_Rising}
+use Rattle.pn_join.proofs.LeafListIndices.{end_at}
+use Rattle.pn_join.proofs.LeafListSearch.{parted, leaf_for-search, leaf_for-within, find_in_list, Rising-leaf}
 
 -- within a list the default is not read
 pub same_at : {A : Type 0} (xs : List A) (i : ℕ) (d e : A) → i < length xs → get_or xs i d ≡ get_or xs i e
 same_at [] i d e lt = absurd (omega (arith, lt))
 same_at (x ∷ xs) zero d e lt = refl
 same_at (x ∷ xs) (suc i) d e lt = same_at xs i d e (omega (arith, lt))
-
--- the leaf's last key is less than this one
-abbrev pub leaf_ends_below : {K X : Type 0} → (K → K → Ordering) → K → Leaf K X → Bool
-leaf_ends_below cmp key leaf = ends_below cmp key (leaf_entries leaf)
 
 -- the count is not above the index
 abbrev pub counts_by : ℕ → ℕ → Bool
@@ -159,12 +41,6 @@ module _ {K X : Type 0} (cmp : K → K → Ordering) (valid : X → Type 0) wher
       find_in_list cmp key o list (list_some list leaf_list) (list_rising list leaf_list)
       ∙ ap (λ j. find cmp key (get_or list j [])) (sym at) ∙ ap (find cmp key) (sym is)
 
-  -- the entries of the leaf at an index
-  pub leaf_is : (leaves same : List (Leaf K X)) (i : ℕ) (leaf : Leaf K X) → same ≡ leaves → i < length (leaves_of leaves) → leaf ≡ get_or same i leaf → leaf_entries leaf ≡ get_or (leaves_of leaves) i []
-  leaf_is leaves same i leaf is within at =
-      let inside : i < length leaves = omega (arith, within, length-leaves leaves) in
-      ap leaf_entries (at ∙ ap (λ ls. get_or ls i leaf) is) ∙ get_or-leaves leaf_entries leaves i leaf [] inside
-
   pub IsTable-leaf : (key : K) (o : IsTotalOrder cmp) (list : List (List (K × X))) → IsLeafList cmp valid list → (i : ℕ) → IsTable cmp valid (get_or list i [])
   IsTable-leaf key o list leaf_list i = record {
     rising = sorted_from_Rising cmp _ (Rising-leaf cmp key o list (list_rising list leaf_list) i);
@@ -184,26 +60,6 @@ module _ {K X : Type 0} (cmp : K → K → Ordering) (valid : X → Type 0) wher
   IsLeaf-at (l ∷ ls) zero h lt = h.0
   IsLeaf-at (l ∷ ls) (suc i) h lt = IsLeaf-at ls i h.1 (omega (arith, lt))
 
-  module _ (key : K) (o : IsTotalOrder cmp) (leaves : List (Leaf K X)) (leaf_list : IsLeafList cmp valid (leaves_of leaves)) where
-    pub leaves_parted : IsPartitionedBy (leaf_ends_below cmp key) leaves
-    leaves_parted i j d le lt p =
-        let list = leaves_of leaves in
-        let long : length list ≡ length leaves = length-leaves leaves in
-        let within : j < length list = omega (arith, lt, long) in
-        let first : i < length leaves = omega (arith, le, lt) in
-        ap (ends_below cmp key) (get_or-leaves leaf_entries leaves i d [] first)
-        ∙ parted cmp key o list (list_some list leaf_list) (list_rising list leaf_list) i j le within
-        (ap (ends_below cmp key) (sym (get_or-leaves leaf_entries leaves j d [] lt)) ∙ p)
-
-    pub leaf_searched : (n last : ℕ) → n ≡ prefix_len (leaf_ends_below cmp key) leaves → last ≡ length leaves - 1 → min n last ≡ leaf_for cmp key (leaves_of leaves)
-    leaf_searched n last is at =
-        let list = leaves_of leaves in
-        let long : length list ≡ length leaves = length-leaves leaves in
-        let same : last ≡ length list - 1 = omega (arith, at, long) in
-        ap (λ k. min k last) (is ∙ sym (prefix_len-map (ends_below cmp key) leaf_entries leaves))
-        ∙ ap (min (prefix_len (λ leaf. ends_below cmp key leaf) list)) same
-        ∙ sym (leaf_for-search cmp key o list)
-
 module _ {A : Type 0} where
   -- the count before a leaf is where it starts
   pub start_at : (list : List (List A)) (index d : ℕ) → (index ≡ 0 → ⊥) → index ≤ length list → get_or (counts_after 0 list) (index - 1) d ≡ length (all_entries (take index list))
@@ -214,38 +70,3 @@ module _ {A : Type 0} where
       ap (λ k. get_or (counts_after 0 list) k d) at ∙ end_at 0 list i within d ∙ none_more (length (all_entries (take (suc i) list))) where
         none_more : (n : ℕ) → 0 + n ≡ n
         none_more n = omega arith
-
--- A join of one entry into its leaf is a join into the list.
-
-module _ {K C M : Type 0} (cmp : K → K → Ordering) (o : IsTotalOrder cmp) (meaning : C → M) (joined : M → M → M) (valid : C → Type 0) (key : K) (content : C) where
-  module _ (list : List (List (K × C))) (leaf_list : IsLeafList cmp valid list) (some : 0 < length list) (i : ℕ) (at : i ≡ leaf_for cmp key list) (front back : List (K × C)) (is : IsPutOf cmp meaning joined valid key content (get_or list i []) (front ++ back)) where
-    within : i < length list
-    within = rw at (leaf_for-within cmp key o list some)
-
-    pub put_in_all : IsPutOf cmp meaning joined valid key content (all_entries list) (all_entries (with_back i back (set list i front)))
-    put_in_all = record {
-      value = is.value;
-      put = all_with_back list i front back within
-          ∙ ap (λ es. all_entries (take i list) ++ (es ++ all_entries (drop (suc i) list))) is.put
-          ∙ ap (λ j. all_entries (take j list) ++ (put cmp key is.value (get_or list j []) ++ all_entries (drop (suc j) list))) at
-          ∙ sym (put_in_list cmp key o is.value list some (list_some cmp valid list leaf_list) (list_rising cmp valid list leaf_list));
-      means = is.means ∙ ap (λ x. optional_joined joined (option_map meaning x) (Some (meaning content)))
-          (ap (λ j. find cmp key (get_or list j [])) at ∙ sym (find_in_list cmp key o list (list_some cmp valid list leaf_list) (list_rising cmp valid list leaf_list)));
-      is_valid = is.is_valid;
-    }
-
-    pub joined_list : IsLeaf front → length back ≤ MAX_LEAF_ENTRIES → IsLeafList cmp valid (with_back i back (set list i front))
-    joined_list size fits = record {
-      sizes = each_with_back (λ leaf. IsLeaf leaf) front size list i back within leaf_list.sizes (λ more. (more, fits));
-      table = IsTable-new put_in_all o leaf_list.table;
-    }
-
-    pub joined_counts : (more end : ℕ) (entry_counts new_counts : List ℕ) → AreEntryCounts list entry_counts → length front + length back ≡ length (get_or list i []) + more → end ≡ length (all_entries (take i list)) + length front → length (all_entries list) + 1 < 2 ^ 64 → new_counts ≡ counts_with i more end back entry_counts → AreEntryCounts (with_back i back (set list i front)) new_counts
-    joined_counts more end entry_counts new_counts are grown count_at bound new = record {
-      each = new ∙ ap (counts_with i more end back) are.each ∙ ap (λ n. counts_with i more n back (counts_after 0 list)) count_at ∙ sym (counts_with_back list i front back more within grown);
-      fits = omega (arith, length-by_one put_in_all, bound);
-    }
-
-  -- the first entry of all
-  pub put_first : valid content → IsPutOf cmp meaning joined valid key content [] (((key, content) ∷ []) ++ [])
-  put_first ok = record { value = content; put = refl; means = refl; is_valid = ok }

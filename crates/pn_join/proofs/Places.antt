@@ -1,54 +1,17 @@
 -- What the index of a key in one leaf tells of the leaves.
-use Rattle.std.proofs.Common.{◌≡◌, ℕ, suc, ◌-◌, ◌<◌, true, false, List, [], ◌∷◌, length, Ok, Err, Ordering, Less, Equal, Greater, is_lt, refl, sym, ap, ◌∙◌, arith, append-nil, zero, cond, get_or, slice_get, option_map, option_copied, Option, None, Some, Result, is_eq, Bor, inl, inr, subst}
+use Rattle.std.proofs.Common.{◌≡◌, ℕ, zero, suc, ◌<◌, true, false, cond, List, [], ◌∷◌, length, get_or, slice_get, option_map, option_copied, Option, None, Some, Result, Ok, Err, Ordering, Less, Equal, Greater, is_eq, is_lt, Bor, inl, inr, refl, sym, ap, ◌∙◌, subst, arith}
 use Rattle.std.specs.Prelude.{IfSome, ◌⊎◌}
-use Rattle.std.specs.Ordering.{ordering_reverse}
-use Rattle.std.specs.Cmp.{IsTotalOrder, alike_right}
-use Rattle.std.specs.FinMap.Entries.{by_order}
 use Rattle.std.specs.List.{AllByRecursion}
+use Rattle.std.specs.Cmp.{IsTotalOrder, alike_right}
 use Rattle.std.specs.FinMap.{find}
-use Rattle.pn_join.specs.Tables.{later, index_of, AreUpTo}
-use Rattle.pn_join.specs.Leaves.{ends_below, all_entries, begins_below, leaf_for}
-use Rattle.pn_join.proofs.LeafListSearch.{above_all, index_past, shifted-first, IsAbove, Below-leaf, Rising-leaf, ends_below-above, ends_below-before, leaf_for-at}
-use Rattle.pn_join.proofs.Rising.{Below, Rising, flipped, AllBelow, AllBelow-from_Rising, Rising-back, each_back, each_prefix}
+use Rattle.std.specs.FinMap.Entries.{by_order}
+use Rattle.pn_join.specs.Indices.{later, index_of}
+use Rattle.pn_join.specs.Leaves.{all_entries, begins_below, ends_below, leaf_for}
+use Rattle.pn_join.proofs.Each.{each_back, each_prefix}
+use Rattle.pn_join.proofs.IndexAtEnd.{past_end}
 use Rattle.pn_join.proofs.Indices.{by_index}
-
--- The index of a key that no entry is above: that of the last entry, or the end.
-
-tied : (r : Ordering) → is_lt r ≡ false → is_lt (ordering_reverse r) ≡ false → r ≡ Equal
-tied Less p q = cc
-tied Equal p q = refl
-tied Greater p q = cc
-
-module _ {K X : Type 0} (cmp : K → K → Ordering) (key : K) (o : IsTotalOrder cmp) where
-  pub in_none : (es : List (K × X)) → length es ≡ 0 → Err 0 ≡ index_of cmp key es
-  in_none [] none = refl
-  in_none (e ∷ es) none = absurd (omega (arith, none))
-
-  pub past_end : (es : List (K × X)) → Rising cmp es → ends_below cmp key es ≡ true → Err (length es) ≡ index_of cmp key es
-  past_end es h below = shifted-first (length es) ∙ sym (index_past cmp key es [] (above_all cmp key o es h below)) ∙ ap (index_of cmp key) (append-nil es)
-
-  index_by : (e : K × X) (es : List (K × X)) (r : Ordering) → cmp key e.0 ≡ r → index_of cmp key (e ∷ es) ≡ by_order r (Err 0) (Ok 0) (later (index_of cmp key es))
-  index_by e es r p = ap (λ r. by_order r (Err 0) (Ok 0) (later (index_of cmp key es))) p
-
-  -- the last entry has the key, where it is neither below nor above it
-  tied_end : (e : K × X) → is_lt (cmp e.0 key) ≡ false → is_lt (cmp key e.0) ≡ false → cmp key e.0 ≡ Equal
-  tied_end e p q = tied (cmp key e.0) q (ap is_lt (sym (o.antisymm e.0 key)) ∙ p)
-
-  below_tied : (k : K) (es : List (K × X)) → Below cmp k es → AreUpTo cmp key es → 0 < length es → ends_below cmp key es ≡ false → cmp k key ≡ Less
-  below_tied k [] h up some not = absurd (omega (arith, some))
-  below_tied k (e ∷ []) h up some not = sym (alike_right o e.0 key k (flipped o key e.0 (tied_end e not up.0))) ∙ h.0
-  below_tied k (e ∷ f ∷ es) h up some not = below_tied k (f ∷ es) h.1 up.1 (omega arith) not
-
-  pub at_end : (es : List (K × X)) → Rising cmp es → AreUpTo cmp key es → 0 < length es → ends_below cmp key es ≡ false → Ok (length es - 1) ≡ index_of cmp key es
-  at_end [] h up some not = absurd (omega (arith, some))
-  at_end (e ∷ []) h up some not =
-      let first : length (e ∷ []) - 1 ≡ 0 = omega arith in
-      ap (λ (n : ℕ). Ok n) first ∙ sym (index_by e [] Equal (tied_end e not up.0))
-  at_end (e ∷ f ∷ es) h up some not =
-      let next : length (e ∷ f ∷ es) - 1 ≡ suc (length (f ∷ es) - 1) = omega arith in
-      ap (λ (n : ℕ). Ok n) next
-      ∙ ap later (at_end (f ∷ es) h.1 up.1 (omega arith) not)
-      ∙ sym (index_by e (f ∷ es) Greater (flipped o e.0 key (below_tied e.0 (f ∷ es) h.0 up.1 (omega arith) not)))
+use Rattle.pn_join.proofs.LeafListSearch.{IsAbove, Below-leaf, Rising-leaf, ends_below-above, ends_below-before, leaf_for-at}
+use Rattle.pn_join.proofs.Rising.{Below, Rising, AllBelow, AllBelow-from_Rising, Rising-back, flipped}
 
 module _ {K X : Type 0} (cmp : K → K → Ordering) (key : K) where
   -- the entry at the index has the content at the key
@@ -69,7 +32,7 @@ module _ {K X : Type 0} (cmp : K → K → Ordering) (key : K) where
       ap (λ (n : ℕ). option_map (λ (x : K × X). x.1) (slice_get (e ∷ es) n)) at ∙ has j refl ∙ sym (first_found e es Greater p)
   content_later e es p (Err j) has i is = cc
 
-  content_at_tie : (es : List (K × X)) (i : ℕ) → Ok i ≡ index_of cmp key es → option_map (λ (e : K × X). e.1) (slice_get es i) ≡ find cmp key es
+  pub content_at_tie : (es : List (K × X)) (i : ℕ) → Ok i ≡ index_of cmp key es → option_map (λ (e : K × X). e.1) (slice_get es i) ≡ find cmp key es
   content_at_tie es = by_index cmp key HasContent (λ i is. cc) (λ e es p i is. cc) content_first content_later es
 
   -- the content read at the index of a key is that at the key
@@ -116,13 +79,13 @@ module _ {K X : Type 0} (cmp : K → K → Ordering) (key : K) where
           | false ↦ λ p. refl
         ] refl
 
-    above_tied : (e : K × X) (es : List (K × X)) → Below cmp e.0 es → BeginsTied es → cmp key e.0 ≡ Greater
-    above_tied e [] h t = absurd t
-    above_tied e (f ∷ es) h t = flipped o e.0 key (sym (alike_right o f.0 key e.0 (flipped o key f.0 t)) ∙ h.0)
+    below_tied : (e : K × X) (es : List (K × X)) → Below cmp e.0 es → BeginsTied es → cmp key e.0 ≡ Greater
+    below_tied e [] h t = absurd t
+    below_tied e (f ∷ es) h t = flipped o e.0 key (sym (alike_right o f.0 key e.0 (flipped o key f.0 t)) ∙ h.0)
 
     all_below_tied : (es : List (K × X)) (list : List (List (K × X))) → AllBelow cmp es (all_entries list) → (j : ℕ) → BeginsTied (get_or list j []) → IsAbove cmp key es
     all_below_tied [] list h j t = tt
-    all_below_tied (e ∷ es) list h j t = (above_tied e (get_or list j []) (Below-leaf cmp key o e.0 list h.0 j) t, all_below_tied es list h.1 j t)
+    all_below_tied (e ∷ es) list h j t = (below_tied e (get_or list j []) (Below-leaf cmp key o e.0 list h.0 j) t, all_below_tied es list h.1 j t)
 
     -- if a leaf begins with the key, the one before it ends below it
     tied-before : (list : List (List (K × X))) → AllByRecursion (λ leaf. 0 < length leaf) list → Rising cmp (all_entries list) → (i : ℕ) → BeginsTied (get_or list (suc i) []) → ends_below cmp key (get_or list i []) ≡ true
@@ -164,3 +127,16 @@ module _ {K X : Type 0} (valid : X → Type 0) where
   pub valid_read : (list : List (List (K × X))) (leaf : ℕ) (es : List (K × X)) (i : ℕ) (r : Option (Bor X)) → AllByRecursion (λ e. valid e.1) (all_entries list) → option_copied r ≡ option_map (λ (e : K × X). e.1) (slice_get es i) → es ≡ get_or list leaf [] → IfSome r (λ x. valid x.now)
   valid_read list leaf es i r h is same =
       valid_copied valid r (option_map (λ (e : K × X). e.1) (slice_get es i)) is (valid_there es i (subst (λ (xs : List (K × X)). AllByRecursion (λ e. valid e.1) xs) (sym same) (leaf_contents list leaf h)))
+
+module _ {K X : Type 0} (cmp : K → K → Ordering) (key : K) (valid : X → Type 0) where
+  valid_at : (es : List (K × X)) → AllByRecursion (λ e. valid e.1) es → IfSome (find cmp key es) valid
+  valid_at [] h = tt
+  valid_at (e ∷ es) h =
+      elim (is_eq (cmp key e.0)) as (λ b. IfSome (cond b (Some e.1) (find cmp key es)) valid) [
+        | true ↦ h.0
+        | false ↦ valid_at es h.1
+      ]
+
+  -- a content that is found is valid
+  pub valid_found : (es : List (K × X)) (found : Option (Bor X)) → option_copied found ≡ find cmp key es → AllByRecursion (λ e. valid e.1) es → IfSome found (λ x. valid x.now)
+  valid_found es found is h = valid_copied valid found (find cmp key es) is (valid_at es h)

@@ -1,72 +1,10 @@
--- What holds of each element of a list, entries whose keys rise, and where a test divides a list.
-use Rattle.std.proofs.Common.{List, [], ◌∷◌, ◌++◌, ◌≡◌, length, slice_get, Some, ap, arith, ℕ, zero, suc, ◌+◌, ◌<◌, ◌≤◌, Bool, true, false, cond, map, get_or, refl, ◌∙◌, sym, ◌&&◌, Ordering, Less, Equal, Greater, is_lt, IsTrue}
-use Rattle.std.specs.List.{AllByRecursion, prefix_len}
-use Rattle.std.specs.List.Sorted.{IsPartitionPoint}
+-- Entries whose keys rise, as facts on each key and those after it.
+use Rattle.std.proofs.Common.{◌≡◌, Bool, true, false, ◌&&◌, List, [], ◌∷◌, ◌++◌, Ordering, Less, Equal, Greater, is_lt, IsTrue, refl, ap, ◌∙◌}
+use Rattle.std.specs.List.{AllByRecursion}
 use Rattle.std.specs.Ordering.{ordering_reverse}
 use Rattle.std.specs.Cmp.{IsTotalOrder}
 use Rattle.std.specs.FinMap.{is_sorted}
 use Rattle.std.specs.FinMap.Entries.{below_all}
-
--- What holds of each element of a list, by recursion on it.
-
-module _ {A : Type 0} (P : A → Type 0) where
-  pub each_of : ((x : A) → P x) → (xs : List A) → AllByRecursion P xs
-  each_of h [] = tt
-  each_of h (x ∷ xs) = (h x, each_of h xs)
-
-  pub each_prefix : (xs ys : List A) → AllByRecursion P (xs ++ ys) → AllByRecursion P xs
-  each_prefix [] ys h = tt
-  each_prefix (x ∷ xs) ys h = (h.0, each_prefix xs ys h.1)
-
-  pub each_back : (xs ys : List A) → AllByRecursion P (xs ++ ys) → AllByRecursion P ys
-  each_back [] ys h = h
-  each_back (x ∷ xs) ys h = each_back xs ys h.1
-
-  pub each_append : (xs ys : List A) → AllByRecursion P xs → AllByRecursion P ys → AllByRecursion P (xs ++ ys)
-  each_append [] ys h g = g
-  each_append (x ∷ xs) ys h g = (h.0, each_append xs ys h.1 g)
-
-  pub each_weaker : (Q : A → Type 0) → ((x : A) → P x → Q x) → (xs : List A) → AllByRecursion P xs → AllByRecursion Q xs
-  each_weaker Q f [] h = tt
-  each_weaker Q f (x ∷ xs) h = (f x h.0, each_weaker Q f xs h.1)
-
-  pub each_by_both : (Q R : A → Type 0) → ((x : A) → P x → Q x → R x) → (xs : List A) → AllByRecursion P xs → AllByRecursion Q xs → AllByRecursion R xs
-  each_by_both Q R f [] h g = tt
-  each_by_both Q R f (x ∷ xs) h g = (f x h.0 g.0, each_by_both Q R f xs h.1 g.1)
-
-  pub each_last : (xs : List A) (y : A) → AllByRecursion P (xs ++ y ∷ []) → P y
-  each_last xs y h = (each_back xs (y ∷ []) h).0
-
--- A list of one item.
-
-pub only_one : {A : Type 0} (xs : List A) (x : A) → length xs ≡ 1 → Some x ≡ slice_get xs 0 → xs ≡ x ∷ []
-only_one [] x one is = absurd (omega (arith, one))
-only_one (y ∷ []) x one is = let same : y ≡ x = cc in ap (λ z. z ∷ []) same
-only_one (y ∷ z ∷ ys) x one is = absurd (omega (arith, one))
-
--- Where a test divides a list.
-
-one_more : (i : ℕ) → suc i ≡ 1 + i
-one_more i = omega arith
-
-module _ {X : Type 0} (p : X → Bool) where
-  pub prefix_at : (xs : List X) (i : ℕ) → i ≤ length xs → IsPartitionPoint (λ y. p y ≡ true) (λ y. p y ≡ false) xs i → i ≡ prefix_len p xs
-  prefix_at [] i le h = omega (arith, le)
-  prefix_at (x ∷ xs) zero le h = sym (ap (λ b. cond b (1 + prefix_len p xs) 0) (h.1 0 x (omega arith) (omega arith)))
-  prefix_at (x ∷ xs) (suc i) le h =
-      one_more i ∙ ap (λ n. 1 + n) (prefix_at xs i (omega (arith, le)) ((λ k d ge lt. h.0 (suc k) d (omega (arith, ge)) (omega (arith, lt))), (λ k d ge lt. h.1 (suc k) d (omega (arith, ge)) (omega (arith, lt)))))
-      ∙ sym (ap (λ b. cond b (1 + prefix_len p xs) 0) (h.0 0 x (omega arith) (omega arith)))
-
-  pub prefix_len-map : {Y : Type 0} (f : Y → X) (ys : List Y) → prefix_len p (map f ys) ≡ prefix_len (λ y. p (f y)) ys
-  prefix_len-map f [] = refl
-  prefix_len-map f (y ∷ ys) = ap (λ n. cond (p (f y)) (1 + n) 0) (prefix_len-map f ys)
-
-pub get_or-leaves : {X Y : Type 0} (f : X → Y) (xs : List X) (i : ℕ) (d : X) (e : Y) → i < length xs → f (get_or xs i d) ≡ get_or (map f xs) i e
-get_or-leaves f [] i d e lt = absurd (omega (arith, lt))
-get_or-leaves f (x ∷ xs) zero d e lt = refl
-get_or-leaves f (x ∷ xs) (suc i) d e lt = get_or-leaves f xs i d e (omega (arith, lt))
-
--- Entries whose keys rise, as facts on each key and those after it.
 
 both : (a b : Bool) → a ≡ true → b ≡ true → a && b ≡ true
 both true b p q = q

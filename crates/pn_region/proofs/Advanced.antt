@@ -9,7 +9,7 @@ use Rattle.std.proofs.lemmas.Cmp.{nat_list_cmp_total, tied_itself}
 use Rattle.std.proofs.lemmas.List.{map-append, take_more}
 use Rattle.std.specs.Result.{result_map_both}
 use Rattle.pn_join.specs.Marks.{is_position, if_position, least_at, least_marks}
-use Rattle.pn_join.proofs.MarksFacts.{position_of-least_marks, are_positions-least_marks}
+use Rattle.pn_join.proofs.LeastFacts.{position_of-least_marks, are_positions-least_marks}
 use Rattle.pn_tablet.specs.Steps.{Refuses}
 use Rattle.pn_region.specs.Recovery.{least_cover, common_marks, with_marks, after_advance, is_no_advance as is_memory}
 use Rattle.pn_region.proofs.Common.{AllByRecursion, eq_by_cmp, find, Positions, name_cmp, position_of, are_positions, TabletStateValue, Reaches, Ends, ranges, RegionValue, AreTabletsOf, IsRegion}

@@ -2,7 +2,8 @@
 use Rattle.std.proofs.Common.{◌≡◌, ℕ, zero, suc, ◌≤◌, Bool, true, false, if◌then◌else◌, List, [], ◌∷◌, slice_get, Option, None, Some, Ok, Err, refl, sym, ap, ◌∙◌, subst, arith, inl, inr, map}
 use Rattle.std.specs.Prelude.{fold}
 use Rattle.pn_join.specs.Marks.{least_marks}
-use Rattle.pn_join.proofs.MarksFacts.{is_sorted-least_marks, is_sorted-raised_marks}
+use Rattle.pn_join.proofs.LeastFacts.{is_sorted-least_marks}
+use Rattle.pn_join.proofs.MarksFacts.{is_sorted-raised_marks}
 use Rattle.pn_tablet.specs.Steps.{IsSpelled, Rise, with_join}
 use Rattle.pn_tablet.proofs.TabletLaws.{never_falls, reach_never_falls}
 use Rattle.pn_tablet.specs.Layouts.{meet}

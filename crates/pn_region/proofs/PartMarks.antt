@@ -4,7 +4,8 @@ use Rattle.std.specs.Prelude.{filter, fold}
 use Rattle.std.proofs.lemmas.List.Elements.{filter_more}
 use Rattle.std.proofs.lemmas.List.Sums.{fold-append}
 use Rattle.pn_join.specs.Marks.{least_marks}
-use Rattle.pn_join.proofs.MarksFacts.{position_of-least_marks, are_positions-least_marks, position_of-raised_marks}
+use Rattle.pn_join.proofs.LeastFacts.{position_of-least_marks, are_positions-least_marks}
+use Rattle.pn_join.proofs.MarksFacts.{position_of-raised_marks}
 use Rattle.pn_tablet.specs.Layouts.{meet}
 use Rattle.pn_region.specs.Recovery.{parts_of, least_cover, greatest_reach}
 use Rattle.pn_region.proofs.Common.{AllByRecursion, Positions, Reaches, position_of, raised_marks, are_positions, Ends, TabletStateValue, AreTabletsOf, lie_in, IsSound}

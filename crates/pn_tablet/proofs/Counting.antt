@@ -7,7 +7,9 @@ use Rattle.std.specs.FinMap.{find, put, is_sorted}
 use Rattle.std.specs.FinMap.Entries.{by_order, find-put, same_entries}
 use Rattle.std.proofs.lemmas.Cmp.{nat_list_cmp_total}
 use Rattle.std.proofs.lemmas.Map.Lookups.{exact_bytes}
-use Rattle.pn_join.specs.Tables.{Changes, AreChanges, AreValid, those_there, puts, IsTable, optional_joined}
+use Rattle.pn_join.specs.TableChanges.{Changes, AreValid, those_there, puts}
+use Rattle.pn_join.specs.Tables.{IsTable, optional_joined}
+use Rattle.pn_join.specs.TableChanges.{AreChanges}
 use Rattle.pn_join.specs.declared.table.change.TableChange.{TableChange}
 use Rattle.pn_join.proofs.Changing.{puts_joined, valid_changes}
 use Rattle.pn_join.proofs.Puts.{IsTable-put}

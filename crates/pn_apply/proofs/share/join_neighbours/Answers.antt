@@ -4,7 +4,7 @@ use Rattle.std.proofs.lemmas.Cmp.{nat_list_cmp_total}
 use Rattle.std.specs.FinMap.{find}
 use Rattle.std.specs.Vec.Iter.{into_iter_items}
 use Rattle.pn_join.specs.Tables.{IsTable}
-use Rattle.pn_join.proofs.Puts.{IsTable-new}
+use Rattle.pn_join.proofs.PutFacts.{IsTable-new}
 use Rattle.pn_record.specs.Cells.{Entries}
 use Rattle.pn_record.specs.Sets.{bytes_cmp, HasContents}
 use Rattle.pn_record.proofs.CellLists.{both}

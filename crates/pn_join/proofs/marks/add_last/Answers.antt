@@ -2,7 +2,7 @@
 use Rattle.std.proofs.Common.{◌++◌, sym, ap, ◌∙◌}
 use Rattle.std.specs.Option.{option_to_list}
 use Rattle.std.proofs.lemmas.Result.{on_ok_weaker}
-use Rattle.pn_join.proofs.MarksFacts.{mark_there, raised_last}
+use Rattle.pn_join.proofs.LeastFacts.{mark_there, raised_last}
 use Rattle.pn_join.proofs.marks.add_last.Goals as goal
 
 pub returns : goal.returns

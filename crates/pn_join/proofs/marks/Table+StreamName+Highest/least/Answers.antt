@@ -1,7 +1,7 @@
 -- The next mark comes after those so far, as the names of the least rise.
 use Rattle.std.proofs.Common.{◌≡◌, min, ◌∙◌}
 use Rattle.pn_join.specs.Marks.{position_of}
-use Rattle.pn_join.proofs.MarksFacts.{least_rises}
+use Rattle.pn_join.proofs.LeastFacts.{least_rises}
 use Rattle.pn_join.proofs.marks.Table+StreamName+Highest.least.Goals as goal
 
 pub add_last-requires : goal.add_last-requires

@@ -1,7 +1,8 @@
 use Rattle.std.proofs.Common.{map, refl, ap, ◌∙◌}
 use Rattle.std.proofs.lemmas.Result.{on_ok_weaker}
 use Rattle.pn_join.specs.Leaves.{all_entries}
-use Rattle.pn_join.proofs.Puts.{joins_new, keys_put}
+use Rattle.pn_join.proofs.PutFacts.{joins_new}
+use Rattle.pn_join.proofs.Puts.{keys_put}
 use Rattle.pn_join.proofs.table.Table.join_entry.Goals as goal
 
 pub returns-clause-ok : goal.returns-clause-ok

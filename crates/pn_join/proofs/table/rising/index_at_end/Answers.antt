@@ -1,7 +1,7 @@
 -- The last key is less than the key, or equal to it.
 use Rattle.std.proofs.Common.{◌≡◌, ◌<◌, length, sym, ◌∙◌, arith}
 use Rattle.std.proofs.lemmas.Bool.Decides.{nat_tests}
-use Rattle.pn_join.proofs.Places.{in_none, past_end, at_end}
+use Rattle.pn_join.proofs.IndexAtEnd.{in_none, past_end, at_end}
 use Rattle.pn_join.proofs.Rising.{Rising-from_sorted}
 use Rattle.pn_join.proofs.table.rising.index_at_end.Goals as goal
 
