@@ -1,5 +1,5 @@
 -- Putting the changed contents is joining with the other table.
-use Rattle.std.proofs.Common.{◌≡◌, true, false, cond, List, [], ◌∷◌, ◌++◌, Option, Some, None, option_map, Ordering, is_eq, refl, sym, ap, ◌∙◌}
+use Rattle.std.proofs.Common.{◌≡◌, true, false, cond, List, [], ◌∷◌, ◌++◌, length, Option, Some, None, option_map, Ordering, is_eq, refl, sym, ap, ◌∙◌, arith}
 use Rattle.std.specs.List.{AllByRecursion, AllZip}
 use Rattle.std.specs.Option.{option_to_list}
 use Rattle.std.specs.Cmp.{IsTotalOrder}
@@ -12,6 +12,11 @@ use Rattle.pn_join.specs.declared.table.change.TableChange.{TableChange}
 use Rattle.pn_join.proofs.Indices.{not_found_below}
 use Rattle.pn_join.proofs.Puts.{contents_at-put, contents_at-same, tie, IsTable-put}
 use Rattle.pn_join.proofs.Rising.{Below, Rising, Below-tied, Rising-from_sorted, flipped}
+
+-- a list that has no length has no items
+pub none_left : {A : Type 0} (xs : List A) → length xs ≡ 0 → xs ≡ []
+none_left [] is = refl
+none_left (x ∷ xs) is = absurd (omega (arith, is))
 
 pub those_push : {A : Type 0} (xs : List (Option A)) (x : Option A) → those_there (xs ++ x ∷ []) ≡ those_there xs ++ option_to_list x
 those_push [] None = refl

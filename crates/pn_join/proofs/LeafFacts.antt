@@ -71,6 +71,11 @@ module _ {A : Type 0} where
     new_leaves = ap (λ ls. (e ∷ es) ∷ ls) is ∙ sym (append-nil ((e ∷ es) ∷ leaf_of back));
   }
 
+-- a leaf with entries, if there is one
+pub some_leaf : {V A : Type 0} (items : V → List A) (leaf : Option V) → IfSome leaf (λ l. 0 < length (items l)) → IfSome (option_map (λ l. leaf_of (items l)) leaf) (λ leaves. 0 < length leaves)
+some_leaf items None some = tt
+some_leaf items (Some l) some = has_leaf (items l) some
+
 module _ {K C : Type 0} (cmp : K → K → Ordering) (valid : C → Type 0) (es : List (K × C)) where
   pub leaf_sorted : IsLeafList cmp valid (leaf_of es) → IsTrue (is_sorted cmp es)
   leaf_sorted leaf_list = subst (λ xs. IsTrue (is_sorted cmp xs)) (all_leaf_of es) leaf_list.table.rising

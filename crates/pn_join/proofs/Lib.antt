@@ -44,3 +44,6 @@ pub mod Opened
 pub mod Finished
 pub mod Restored
 pub mod IndexPuts
+pub mod CountAnew
+pub mod Splits
+pub mod LeafOpenings

@@ -35,6 +35,15 @@ module _ {A : Type 0} where
   last_ends (l ∷ m ∷ ls) zero at = absurd (omega (arith, at))
   last_ends (l ∷ m ∷ ls) (suc i) at = omega (arith, last_ends (m ∷ ls) i (omega (arith, at)), length-append l (all_entries (take i (m ∷ ls))), length-append l (all_entries (m ∷ ls)))
 
+  -- the items up to the end of a list
+  pub take_next : (lists : List (List A)) (i : ℕ) → length (all_entries (take (i + 1) lists)) ≡ length (all_entries (take i lists)) + length (get_or lists i [])
+  take_next [] zero = omega arith
+  take_next [] (suc i) = omega arith
+  take_next (l ∷ ls) zero = omega (arith, length-append l [])
+  take_next (l ∷ ls) (suc i) =
+      let next : suc i + 1 ≡ suc (i + 1) = omega arith in
+      omega (arith, ap (λ n. length (all_entries (take n (l ∷ ls)))) next, take_next ls i, length-append l (all_entries (take (i + 1) ls)), length-append l (all_entries (take i ls)))
+
   module _ (lists : List (List A)) (some : 0 < length lists) (i at : ℕ) where
     inside : (n : ℕ) → n < length (all_entries lists) → at ≡ prefix_len (λ end. leb end n) (counts_after 0 lists) → i ≡ min at (length lists - 1) → StandsIn lists i n
     inside n lt found is =

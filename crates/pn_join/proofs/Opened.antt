@@ -220,6 +220,14 @@ module _ {K C O : Type 0} (was : O → List (List (K × C))) (becomes : O → Li
         local (Ok j) le lt = omega (arith, le, lt)
         local (Err j) le lt = omega (arith, le, lt)
 
+  -- the last edit, and the node that it comes into
+  pub next_comes : (now : List (List (List (K × C)))) (taken : List (Taken O)) (left : List (Edit K C)) → OpenedSoFar now taken left → AreEditsWithin (start + length (entries_in nodes)) edits → 0 < length nodes → (index : ℕ) → start ≤ index → option_map (λ edit. place edit.index) (last_of left) ≡ Some index → (i at : ℕ) → at ≡ prefix_len (λ end. leb end (index - start)) (counts_after 0 (in_blocks nodes)) → i ≡ min at (length nodes - 1) → (last : Edit K C) × (last_of left ≡ Some last) × (start ≤ place last.index) × ComesInto (in_blocks nodes) i (from_start start last.index)
+  next_comes now taken left h are some index from is i at found most =
+      let there = last_there left index is in
+      let same : place there.0.index ≡ index = there.2 in
+      let later : start ≤ place there.0.index = omega (arith, same, from) in
+      (there.0, there.1, later, last_comes now taken left h are some there.0 there.1 later i at (found ∙ ap (λ n. prefix_len (λ end. leb end (n - start)) (counts_after 0 (in_blocks nodes))) (sym same)) most)
+
   module _ (now : List (List (List (K × C)))) (taken : List (Taken O)) (left : List (Edit K C)) (h : OpenedSoFar now taken left) (last : Edit K C) (is : last_of left ≡ Some last) (from : start ≤ place last.index) (i : ℕ) (come : ComesInto (in_blocks nodes) i (from_start start last.index)) where
     pub node_within : i < length nodes
     node_within = omega (arith, come.within, length-in_blocks nodes)
@@ -333,3 +341,7 @@ module _ {K C O : Type 0} (was : O → List (List (K × C))) (becomes : O → Li
         untouched = now_untouched;
         stops = now_stops;
       }
+
+-- a row is open where its nodes are
+pub row_opened : {K C : Type 0} (start : ℕ) (nodes : List (List (List (K × C)))) (edits left : List (Edit K C)) (row : List (List (List (K × C))) × List (K × C)) → row.0 ≡ nodes → AreOpened start (entries_in nodes) edits left row.1 → IsOpened (λ (opened : List (List (List (K × C))) × List (K × C)). all_entries opened.0) (λ opened. opened.1) start (all_entries nodes) edits left row
+row_opened start nodes edits left row is h = record { mine = h.mine; parted = h.parted; from = h.from; stops = h.stops; had = ap all_entries is; has = h.has }

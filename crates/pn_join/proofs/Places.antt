@@ -127,3 +127,16 @@ module _ {K X : Type 0} (valid : X → Type 0) where
   pub valid_read : (list : List (List (K × X))) (leaf : ℕ) (es : List (K × X)) (i : ℕ) (r : Option (Bor X)) → AllByRecursion (λ e. valid e.1) (all_entries list) → option_copied r ≡ option_map (λ (e : K × X). e.1) (slice_get es i) → es ≡ get_or list leaf [] → IfSome r (λ x. valid x.now)
   valid_read list leaf es i r h is same =
       valid_copied valid r (option_map (λ (e : K × X). e.1) (slice_get es i)) is (valid_there es i (subst (λ (xs : List (K × X)). AllByRecursion (λ e. valid e.1) xs) (sym same) (leaf_contents list leaf h)))
+
+module _ {K X : Type 0} (cmp : K → K → Ordering) (key : K) (valid : X → Type 0) where
+  valid_at : (es : List (K × X)) → AllByRecursion (λ e. valid e.1) es → IfSome (find cmp key es) valid
+  valid_at [] h = tt
+  valid_at (e ∷ es) h =
+      elim (is_eq (cmp key e.0)) as (λ b. IfSome (cond b (Some e.1) (find cmp key es)) valid) [
+        | true ↦ h.0
+        | false ↦ valid_at es h.1
+      ]
+
+  -- a content that is found is valid
+  pub valid_found : (es : List (K × X)) (found : Option (Bor X)) → option_copied found ≡ find cmp key es → AllByRecursion (λ e. valid e.1) es → IfSome found (λ x. valid x.now)
+  valid_found es found is h = valid_copied valid found (find cmp key es) is (valid_at es h)

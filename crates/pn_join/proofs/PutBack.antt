@@ -9,11 +9,12 @@ use Rattle.pn_join.specs.Nodes.{both, AreParts}
 use Rattle.pn_join.specs.Rows.{inserted_at}
 use Rattle.pn_join.specs.Tables.{IsTable}
 use Rattle.pn_join.proofs.BlockFacts.{all_in_blocks, at_block, block_there, length-in_blocks}
-use Rattle.pn_join.proofs.BlockGrowth.{all_append}
+use Rattle.pn_join.proofs.BlockGrowth.{all_append, IsTable-back}
 use Rattle.pn_join.proofs.Each.{each_append, each_prefix, each_back, each_set}
 use Rattle.pn_join.proofs.PutAtFacts.{IsTable-inside}
 use Rattle.pn_join.proofs.Recounts.{all_inserted, in_blocks-inserted}
 use Rattle.pn_join.proofs.RowFacts.{all_around, all_with}
+use Rattle.pn_join.proofs.SliceFacts.{IsTable-prefix}
 
 -- as many leaves as entries at most
 pub leaves_few : {A : Type 0} (leaves : List (List A)) → AllByRecursion (λ leaf. IsLeaf leaf) leaves → length leaves ≤ length (all_entries leaves)
@@ -110,3 +111,13 @@ module _ {K C : Type 0} (cmp : K → K → Ordering) (valid : C → Type 0) (nod
 
   pub there_list : (i : ℕ) (node : List (List (K × C))) → Some node ≡ slice_get nodes i → IsLeafList cmp valid node
   there_list i node is = rw (sym (block_there nodes i node is)) (node_list i (there nodes i node is))
+
+-- the leaves of a node and of the one after it, where both are those of a table
+module _ {K C : Type 0} (cmp : K → K → Ordering) (valid : C → Type 0) where
+  pub parts_lists : (front : List (List (K × C))) (back : Option (List (List (K × C)))) → AreParts front back → IsTable cmp valid (all_entries (both front back)) → IsLeafList cmp valid front × IsLeafList cmp valid (unwrap_or back [])
+  parts_lists front back parts table =
+      let more = unwrap_or back [] in
+      let parted = rw (all_append front more) at table in (
+        record { sizes = each_prefix (λ leaf. IsLeaf leaf) front more parts.sizes; table = IsTable-prefix cmp valid (all_entries front) (all_entries more) parted },
+        record { sizes = each_back (λ leaf. IsLeaf leaf) front more parts.sizes; table = IsTable-back cmp valid (all_entries front) (all_entries more) parted },
+      )

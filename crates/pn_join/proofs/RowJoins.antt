@@ -51,6 +51,10 @@ module _ {K C : Type 0} (cmp : K → K → Ordering) (valid : C → Type 0) (nod
         rw (after_is, entries_in-put_back nodes i is.front back node_within, entries_around nodes i node_within)
         (joined-inside meaning joined valid index key content (all_entries (take i (in_blocks nodes))) (all_entries (get_or nodes i [])) (all_entries (both is.front back)) (all_entries (drop (suc i) (in_blocks nodes))) starts among_node is.put)
 
+    -- the entries of both parts are a table
+    pub parts_table : IsTable cmp valid (all_entries (both is.front back))
+    parts_table = rw is.put.put ((node_may key may).table is.put.value is.put.is_valid)
+
     pub one_in_row : ChangesOneLeaf (all_entries nodes) (all_entries (inserted_at (i + 1) (option_to_list back) mid))
     one_in_row = rw after_is (one_put_back nodes i is.front back node_within some is.one)
 

@@ -9,11 +9,12 @@ use Rattle.pn_join.specs.TableChanges.{AreValid, puts}
 use Rattle.pn_join.specs.declared.table.change.TableChange.{TableChange}
 use Rattle.pn_join.specs.declared.table.edit.Edit.{Edit}
 
-module _ {K C : Type 0} where
-  abbrev Put : Type 0
-  Put = Result ℕ ℕ × (K × C)
+-- what an edit puts: an index, a key and a content
+abbrev PutOf : Type 0 → Type 0 → Type 0
+PutOf K C = Result ℕ ℕ × (K × C)
 
-  abbrev all_put : (K → K → Ordering) → List (K × C) → List Put → List (K × C)
+module _ {K C : Type 0} where
+  abbrev all_put : (K → K → Ordering) → List (K × C) → List (PutOf K C) → List (K × C)
   all_put cmp es [] = es
   all_put cmp es (p ∷ ps) = put cmp p.1.0 p.1.1 (all_put cmp es ps)
 
@@ -24,7 +25,7 @@ module _ {K C : Type 0} where
   pub same_puts : (cmp : K → K → Ordering) (es : List (K × C)) (new old : List (Edit K C)) → puts_in new ≡ puts_in old → puts cmp es (changes_in new) ≡ puts cmp es (changes_in old)
   same_puts cmp es new old same = puts_by cmp es new ∙ ap (all_put cmp es) same ∙ sym (puts_by cmp es old)
 
-  module _ (P : Put → Type 0) where
+  module _ (P : PutOf K C → Type 0) where
     each_put : (edits : List (Edit K C)) → AllByRecursion (λ edit. P (put_of edit)) edits → AllByRecursion P (puts_in edits)
     each_put [] h = tt
     each_put (e ∷ edits) h = (h.0, each_put edits h.1)
@@ -36,12 +37,12 @@ module _ {K C : Type 0} where
   pub same_indexed : (cmp : K → K → Ordering) (es : List (K × C)) (new old : List (Edit K C)) → puts_in new ≡ puts_in old → AreIndexed cmp es old → AreIndexed cmp es new
   same_indexed cmp es new old same h = each_edit (λ p. p.0 ≡ index_of cmp p.1.0 es) new (subst (AllByRecursion (λ p. p.0 ≡ index_of cmp p.1.0 es)) (sym same) (each_put (λ p. p.0 ≡ index_of cmp p.1.0 es) old h))
 
-  entries_by : (edits : List (Edit K C)) → map (λ edit. (edit.change.key, edit.change.after)) edits ≡ map (λ (p : Put). p.1) (puts_in edits)
+  entries_by : (edits : List (Edit K C)) → map (λ edit. (edit.change.key, edit.change.after)) edits ≡ map (λ (p : PutOf K C). p.1) (puts_in edits)
   entries_by [] = refl
   entries_by (e ∷ edits) = ap (λ es. (e.change.key, e.change.after) ∷ es) (entries_by edits)
 
   pub same_rise : (cmp : K → K → Ordering) (new old : List (Edit K C)) → puts_in new ≡ puts_in old → RiseByKey cmp old → RiseByKey cmp new
-  same_rise cmp new old same h = subst (λ es. IsTrue (is_sorted cmp es)) (sym (entries_by new ∙ ap (map (λ (p : Put). p.1)) same ∙ sym (entries_by old))) h
+  same_rise cmp new old same h = subst (λ es. IsTrue (is_sorted cmp es)) (sym (entries_by new ∙ ap (map (λ (p : PutOf K C). p.1)) same ∙ sym (entries_by old))) h
 
   valid_of : (valid : C → Type 0) (edits : List (Edit K C)) → AreValid valid (changes_in edits) → AllByRecursion (λ (edit : Edit K C). valid edit.change.after) edits
   valid_of valid [] h = tt

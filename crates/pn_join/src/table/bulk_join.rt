@@ -2,14 +2,14 @@
 
 ghost use Rattle.std.specs.Prelude.{◌≡◌, ◌≢◌, false, Some, None, option_map, IsTrue, IfOk, IfSome, OnErr};
 ghost use Rattle.std.specs.Option.{option_copied};
-ghost use Rattle.pn_join.specs.Blocks.{entries_in};
+ghost use Rattle.pn_join.specs.Blocks.{entries_in, AreBlocks};
 ghost use Rattle.pn_join.specs.Edits.{changes_in, AreIndexed, RiseByKey};
 ghost use Rattle.pn_join.specs.Indices.{index_of};
 ghost use Rattle.pn_join.specs.TableChanges.{AreChanges, AreValid, Changes, puts};
-ghost use Rattle.pn_join.specs.Tables.{optional_joined, IsTable};
+ghost use Rattle.pn_join.specs.Tables.{optional_joined};
 
 use crate::table::change::{TableChange, dup_optional};
-use crate::table::edit::Edit;
+use crate::table::edit::{Edit, add_optional};
 use crate::table::entries::Entries;
 use crate::table::leaf_list::Root;
 use crate::table::node::Opening;
@@ -27,17 +27,17 @@ pub struct BulkJoin<K, C> {
 /// What the entries of the other change.
 pub fn edits_from<K: Ord + Dup, C: Join>(
     root: &Root<K, C>,
-    others: Entries<'_, K, C>,
+    other: &Root<K, C>,
 ) -> Result<Vec<Edit<K, C>>, NoMemory>
-    requires { IsTable K.cmp C.valid others }
-    ensures changes { IfOk result (λ edits. AreChanges K.cmp C.meaning C.joined C.valid (entries_in root.now) others (changes_in edits.items)) }
+    ensures changes { IfOk result (λ edits. AreChanges K.cmp C.meaning C.joined C.valid (entries_in root.now) (entries_in other.now)
+        (changes_in edits.items)) }
     ensures indexed { IfOk result (λ edits. AreIndexed K.cmp (entries_in root.now) edits.items) }
 {
+    other.recall_row();
     let mut edits = Vec::new(root.alloc());
-    for (key, content) in others {
-        if let Some(edit) = edit_for(root, key, content)? {
-            edits.push(edit)?;
-        }
+    for (key, content) in Entries::new(other, 0) {
+        let edit = edit_for(root, key, content)?;
+        add_optional(&mut edits, edit)?;
     }
     Ok(edits)
 }
@@ -92,7 +92,9 @@ pub fn put_edits<K: Ord + Dup, C: Join>(
     ensures done { IfOk result (λ done. IsTrue done → entries_in root.new ≡ puts K.cmp (entries_in root.old) (changes_in edits.items)) }
     ensures undone { IfOk result (λ done. done ≡ false → entries_in root.new ≡ entries_in root.old) }
     ensures err { OnErr result (entries_in root.new ≡ entries_in root.old) }
+    ensures row { AreBlocks K.cmp C.valid root.new }
 {
+    root.recall_row();
     if root.is_empty() {
         return Ok(edits.is_empty());
     }
@@ -104,14 +106,17 @@ pub fn put_edits<K: Ord + Dup, C: Join>(
     match mem::replace(root, none).open_row(&mut left, 0) {
         Opening::Open(open) => {
             *root = open.finish_row();
+            root.recall_row();
             Ok(true)
         }
         Opening::Full(same) => {
             *root = same;
+            root.recall_row();
             Ok(false)
         }
         Opening::NoMemory(same) => {
             *root = same;
+            root.recall_row();
             Err(NoMemory)
         }
     }

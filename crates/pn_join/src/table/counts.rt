@@ -1,6 +1,6 @@
 //! How many entries and leaves there are in a row of nodes, up to the end of each.
 
-ghost use Rattle.std.specs.Prelude.{◌≡◌, ◌≤◌, leb, length, vec_len, vec_capacity, IfOk};
+ghost use Rattle.std.specs.Prelude.{◌≡◌, ◌-◌, ◌<◌, ◌≤◌, leb, min, length, vec_len, vec_capacity, IfOk};
 ghost use Rattle.std.specs.List.{prefix_len};
 ghost use Rattle.std.specs.List.Sorted.{IsNonDecreasingBy};
 ghost use Rattle.pn_join.specs.Counts.{entry_ends, leaf_ends, end_before, moved_from, CanMove};
@@ -36,6 +36,19 @@ pub fn node_of_entry(ends: &[Sizes], index: usize) -> usize
     ensures { result ≡ prefix_len (λ end. leb end index) (entry_ends ends.now) }
 {
     ends.partition_point(|end| end.entries <= index)
+}
+
+/// The node that an entry with this index comes into, which is the last if it comes after all others, and how many entries
+/// come before the node.
+pub fn node_for_entry(ends: &[Sizes], index: usize) -> (usize, usize)
+    requires some { 0 < length ends.now }
+    requires rise { IsNonDecreasingBy (λ end. end.entries) ends.now }
+    ensures node { result.0 ≡ min (prefix_len (λ end. leb end index) (entry_ends ends.now)) (length ends.now - 1) }
+    ensures start { result.1 ≡ end_before result.0 (entry_ends ends.now) }
+{
+    let last = ends.len() - 1;
+    let node = node_of_entry(ends, index).min(last);
+    (node, start_of(ends, node).entries)
 }
 
 /// The node with the leaf at an index.

@@ -45,6 +45,19 @@ pub fn take_changes<K: Dup, C: Dup>(
     Ok(changes)
 }
 
+/// Adds an edit, if there is one, after all others.
+pub fn add_optional<K: Drop, C: Drop>(
+    edits: &mut Vec<Edit<K, C>>,
+    edit: Option<Edit<K, C>>,
+) -> Result<(), NoMemory>
+    ensures { OnOk result (edits.new.items ≡ edits.old.items ++ option_to_list edit) }
+{
+    match edit {
+        Some(edit) => Ok(edits.push(edit)?),
+        None => Ok(()),
+    }
+}
+
 /// Takes the last edit off if it does not come before an index.
 pub fn pop_from<K, C>(edits: &mut Vec<Edit<K, C>>, start: usize) -> Option<Edit<K, C>>
     ensures parted { edits.old.items ≡ edits.new.items ++ option_to_list result }

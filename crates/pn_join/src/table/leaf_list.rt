@@ -206,8 +206,9 @@ impl<K: Ord + Dup, C: Join> LeafList<K, C> {
     {
         self.recall_leaf_list();
         other.recall_leaf_list();
-        let edits = edits_from(&self.root, other.iter())?;
-        put_edits(&mut self.root, edits)
+        let edits = edits_from(&self.root, &other.root)?;
+        let done = put_edits(&mut self.root, edits)?;
+        Ok(done)
     }
 
     /// Does the same, and returns what the other's entries change.
@@ -221,7 +222,7 @@ impl<K: Ord + Dup, C: Join> LeafList<K, C> {
     {
         self.recall_leaf_list();
         other.recall_leaf_list();
-        let mut edits = edits_from(&self.root, other.iter())?;
+        let mut edits = edits_from(&self.root, &other.root)?;
         let changes = take_changes(self.alloc(), &mut edits)?;
         let is_done = put_edits(&mut self.root, edits)?;
         Ok(BulkJoin { changes, is_done })

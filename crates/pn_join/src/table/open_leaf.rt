@@ -1,16 +1,17 @@
 //! Leaves that are open: all memory is there to put contents into them, so that this cannot fail.
 
-ghost use Rattle.std.specs.Prelude.{◌≡◌, ◌+◌, ◌<◌, ◌≤◌, ◌++◌, length, vec_len, vec_capacity};
+ghost use Rattle.std.specs.Prelude.{◌≡◌, ◌+◌, ◌-◌, ◌*◌, ◌^◌, ◌<◌, ◌≤◌, [], ◌++◌, length, vec_len, vec_capacity, IfOk};
 ghost use Rattle.std.specs.Option.{option_to_list};
-ghost use Rattle.pn_join.specs.Edits.{AreEditsWithin, AreFor, put_edit};
+ghost use Rattle.pn_join.specs.Edits.{AreEditsWithin, AreFor, put_edit, put_in_turn};
 ghost use Rattle.pn_join.specs.Nodes.{leaf_of};
 ghost use Rattle.pn_join.specs.Openings.{IsOpening, IsOpeningFor};
 ghost use Rattle.pn_join.specs.PutAt.{from_start, IsAmong};
 
-use crate::Dup;
 use crate::table::edit::{Edit, from_start, pop_from};
 use crate::table::leaf_join::{MAX_LEAF_ENTRIES, halve_if_long};
 use crate::table::node::Opening;
+use crate::{Dup, NoMemory};
+use std::alloc::Global;
 use std::marker::Model;
 
 /// A leaf with the capacity for edits, of which most leaves get one.
@@ -61,9 +62,9 @@ pub fn open_leaf<K: Ord + Dup, C: Dup>(
     let first = pop_from(edits, start);
     let mut more = Vec::new(*entries.allocator());
     while let Some(edit) = pop_from(edits, start) {
-        if more.push(edit).is_err() {
+        let Ok(()) = more.push(edit) else {
             return Opening::NoMemory(entries);
-        }
+        };
     }
     open_with(entries, start, first, more)
 }
@@ -79,18 +80,17 @@ fn open_with<K: Ord + Dup, C: Dup>(
     requires edits { AreFor start (length entries.items) (option_to_list first ++ more.items) }
     ensures { IsOpeningFor (λ l. leaf_of l.items) (λ o. leaf_of o.0) (λ o. o.1) start (leaf_of entries.items) (option_to_list first ++ more.items) result }
 {
-    let edits = more.len().saturating_add(usize::from(first.is_some()));
+    let edits = count_edits(&first, &more);
     let most = entries.len().saturating_add(edits);
     if most > 2 * MAX_LEAF_ENTRIES {
         return Opening::Full(entries);
     }
-    let mut back = Vec::new(*entries.allocator());
-    if most > MAX_LEAF_ENTRIES && back.reserve(most - most / 2).is_err() {
+    let Ok(back) = room_for_half(*entries.allocator(), most) else {
         return Opening::NoMemory(entries);
-    }
-    if entries.reserve(edits).is_err() {
+    };
+    let Ok(()) = entries.reserve(edits) else {
         return Opening::NoMemory(entries);
-    }
+    };
     Opening::Open(OpenLeaf {
         entries,
         back,
@@ -98,6 +98,27 @@ fn open_with<K: Ord + Dup, C: Dup>(
         first,
         more,
     })
+}
+
+/// How many edits there are. Where the largest number is returned there may be more.
+fn count_edits<K, C>(first: &Option<Edit<K, C>>, more: &[Edit<K, C>]) -> usize
+    ensures { result < 2 ^ 64 - 1 → result ≡ length (option_to_list first.now ++ more.now) }
+{
+    match first {
+        Some(_) => more.len().saturating_add(1),
+        None => more.len(),
+    }
+}
+
+/// A vector without entries, with the capacity for half of so many if they are too many for one leaf.
+fn room_for_half<T>(alloc: Global, most: usize) -> Result<Vec<T>, NoMemory>
+    ensures empty { IfOk result (λ back. back.items ≡ []) }
+    ensures capacity { IfOk result (λ back. MAX_LEAF_ENTRIES < most → most ≤ 2 * vec_capacity back) }
+{
+    if most <= MAX_LEAF_ENTRIES {
+        return Ok(Vec::new(alloc));
+    }
+    Ok(Vec::with_capacity(alloc, most - most / 2)?)
 }
 
 impl<K: Ord + Dup, C: Dup> OpenLeaf<K, C> {
@@ -114,9 +135,7 @@ impl<K: Ord + Dup, C: Dup> OpenLeaf<K, C> {
             first,
             more,
         } = self;
-        if let Some(edit) = first {
-            put_change(&mut entries, start, edit);
-        }
+        put_if_some(&mut entries, start, first);
         for edit in more {
             put_change(&mut entries, start, edit);
         }
@@ -129,6 +148,24 @@ impl<K: Ord + Dup, C: Dup> OpenLeaf<K, C> {
         ensures { result.items ≡ self.0 }
     {
         self.entries
+    }
+}
+
+/// Puts the content of an edit, if there is one, among entries that have the capacity for it.
+fn put_if_some<K: Ord + Dup, C: Dup>(
+    entries: &mut Vec<(K, C)>,
+    start: usize,
+    edit: Option<Edit<K, C>>,
+)
+    requires among { AreFor start (length entries.old.items) (option_to_list edit) }
+    requires capacity { vec_len entries.old + length (option_to_list edit) ≤ vec_capacity entries.old }
+    ensures entries { entries.new.items ≡ put_in_turn start entries.old.items (option_to_list edit) }
+    ensures capacity { vec_capacity entries.old ≤ vec_capacity entries.new }
+    ensures more { (vec_len entries.old ≤ vec_len entries.new) × (vec_len entries.new ≤ vec_len entries.old + length (option_to_list edit)) }
+{
+    match edit {
+        Some(edit) => put_change(entries, start, edit),
+        None => (),
     }
 }
 

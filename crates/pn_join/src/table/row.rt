@@ -130,20 +130,30 @@ impl<K: Ord + Dup, C: Join, T: Node<K, C>> Row<K, C, T> {
         node_of_leaf(&self.ends, index)
     }
 
-    /// The node at an index. `None` past the last.
-    fn child(&self, index: usize) -> Option<&T>
+    /// The node at an index, of which no more is said. `None` past the last.
+    fn any_child(&self, index: usize) -> Option<&T>
         ensures node { option_map (λ node. T.leaves node.now) result ≡ slice_get self.now index }
-        ensures leaf_list { IfSome result (λ node. IsLeafList K.cmp C.valid (T.leaves node.now)) }
         ensures row { AreBlocks K.cmp C.valid self.now }
     {
         let child = self.children.get(index)?;
         Some(child.node())
     }
 
+    /// The node at an index. `None` past the last.
+    fn child(&self, index: usize) -> Option<&T>
+        ensures node { option_map (λ node. T.leaves node.now) result ≡ slice_get self.now index }
+        ensures leaf_list { IfSome result (λ node. IsLeafList K.cmp C.valid (T.leaves node.now)) }
+        ensures row { AreBlocks K.cmp C.valid self.now }
+    {
+        let child = self.any_child(index)?;
+        Some(child)
+    }
+
     /// The entries from an index on that lie in one leaf.
     pub fn rest_of_leaf(&self, index: usize) -> &[(K, C)]
         ensures first { drop index (entries_in self.now) ≡ result.now ++ drop (index + length result.now) (entries_in self.now) }
         ensures some { index < length (entries_in self.now) → 0 < length result.now }
+        ensures fits { length (entries_in self.now) < 2 ^ 64 }
     {
         let node = self.node_at(index);
         let start = self.start(node).entries;

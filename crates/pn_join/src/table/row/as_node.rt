@@ -39,7 +39,10 @@ impl<K: Ord + Dup, C: Join, T: Node<K, C>> Node<K, C> for Row<K, C, T> {
     fn last_key(&self) -> Option<&K> {
         self.recall_row();
         let last = self.children.len().saturating_sub(1);
-        self.child(last)?.last_key()
+        match self.child(last) {
+            Some(node) => node.last_key(),
+            None => None,
+        }
     }
 
     fn find(&self, key: &K) -> (Result<usize, usize>, Option<&C>) {
@@ -62,7 +65,9 @@ impl<K: Ord + Dup, C: Join, T: Node<K, C>> Node<K, C> for Row<K, C, T> {
     }
 
     fn of_next(alloc: Global, left: &mut Vec<(K, C)>) -> Result<Self, NoMemory> {
-        Row::of_next_entries(alloc, left)
+        let row = Row::of_next_entries(alloc, left)?;
+        row.recall_row();
+        Ok(row)
     }
 
     fn has_room_for(&self, other: &Self) -> bool {
@@ -84,6 +89,7 @@ impl<K: Ord + Dup, C: Join, T: Node<K, C>> Node<K, C> for Row<K, C, T> {
     ) -> Result<Option<Self>, NoMemory> {
         self.recall_row();
         self.join_in_row(index, key, content)?;
+        self.recall_row();
         Ok(self.split_if_long())
     }
 
@@ -93,6 +99,7 @@ impl<K: Ord + Dup, C: Join, T: Node<K, C>> Node<K, C> for Row<K, C, T> {
 
     fn finish(opened: OpenRow<K, C, T>) -> (Self, Option<Self>) {
         let mut row = opened.finish_row();
+        row.recall_row();
         let back = row.split_if_long();
         (row, back)
     }

@@ -122,7 +122,7 @@ fn add_hint<K: Ord + Dup, C: Join, T: Node<K, C>>(hints: &mut Vec<K>, children: 
     requires { AreBlocks K.cmp C.valid (each_child T.leaves children.now) }
 {
     let known = hints.len();
-    if known.saturating_add(2) == children.len() {
+    if children.len().saturating_sub(known) == 2 {
         insert_hint(hints, children, known);
     }
 }

@@ -107,7 +107,8 @@ pub fn count_anew<K: Ord + Dup, C: Join, T: Node<K, C>>(
     ensures nodes { each_child T.leaves children.new.items ≡ inserted_at (node + 1) (option_to_list (option_map T.leaves back))
         (each_child T.leaves children.old.items) }
     ensures counts { AreRecounted node (get_or (each_child T.leaves children.old.items) node []) (option_map T.leaves back) ends.old.items ends.new.items }
-    ensures len { (vec_len children.new ≤ vec_len children.old + 1) × (vec_len ends.new ≤ vec_len ends.old + 1) }
+    ensures len { (vec_len children.new ≤ vec_len children.old + 1) × (vec_len ends.new ≤ vec_len ends.old + 1)
+        × (vec_len children.old ≤ vec_len children.new) }
     ensures capacity { (vec_capacity children.old ≤ vec_capacity children.new) × (vec_capacity ends.old ≤ vec_capacity ends.new) }
 {
     let start = start_of(ends, node);

@@ -13,7 +13,7 @@ ghost use Rattle.pn_join.specs.Tables.{IsTable};
 use super::Row;
 use super::growth::insert_hint;
 use super::joins::count_anew;
-use crate::table::counts::{Sizes, node_of_entry, start_of};
+use crate::table::counts::{Sizes, node_for_entry};
 use crate::table::edit::{Edit, last_place};
 use crate::table::node::{Node, NodeRef, Opening};
 use crate::{Dup, Join, NoMemory};
@@ -39,7 +39,7 @@ pub struct OpenRow<K: Ord + Dup, C: Join, T: Node<K, C>> {
 }
 
 impl<K: Ord + Dup, C: Join, T: Node<K, C>> Model for OpenRow<K, C, T> {
-    ghost use Rattle.std.specs.Prelude.{List, length, ◌+◌, ◌≤◌, vec_len, vec_capacity};
+    ghost use Rattle.std.specs.Prelude.{List, length, ◌+◌, ◌<◌, ◌≤◌, vec_len, vec_capacity};
 
     ghost Value = { List (List (List (K × C))) × List (K × C) };
 
@@ -60,7 +60,8 @@ impl<K: Ord + Dup, C: Join, T: Node<K, C>> Model for OpenRow<K, C, T> {
         × GoDown (length row.children.items) row.taken.items
         × NoneShrinks T.was T.becomes row.taken.items
         × (length row.children.items + length row.taken.items ≤ vec_capacity row.children)
-        × (length row.ends.items + length row.taken.items ≤ vec_capacity row.ends) };
+        × (length row.ends.items + length row.taken.items ≤ vec_capacity row.ends)
+        × (0 < length row.children.items) };
 }
 
 impl<K: Ord + Dup, C: Join, T: Node<K, C>> Row<K, C, T> {
@@ -104,7 +105,7 @@ impl<K: Ord + Dup, C: Join, T: Node<K, C>> OpenRow<K, C, T> {
         requires table { IsTable K.cmp C.valid self.1 }
         requires fits { length self.1 < 2 ^ 64 }
         ensures put { entries_in result ≡ self.1 }
-        ensures some { 0 < length self.0 → 0 < length result }
+        ensures some { 0 < length result }
     {
         let OpenRow {
             mut children,
@@ -167,11 +168,10 @@ fn open_children<K: Ord + Dup, C: Join, T: Node<K, C>>(
     ensures capacity { (vec_len children.new + vec_len taken.new ≤ vec_capacity children.new) × (vec_len ends.new + vec_len taken.new ≤ vec_capacity ends.new) }
 {
     while let Some(index) = last_place(edits, start) {
-        let node = node_of_entry(ends, index - start).min(ends.len() - 1);
-        let first = start + start_of(ends, node).entries;
+        let (node, before) = node_for_entry(ends, index - start);
         children.reserve(taken.len() + 1)?;
         ends.reserve(taken.len() + 1)?;
-        if !open_child(children, taken, edits, node, first)? {
+        if !open_child(children, taken, edits, node, start + before)? {
             return Ok(false);
         }
     }
@@ -229,7 +229,8 @@ fn finish_child<K: Ord + Dup, C: Join, T: Node<K, C>>(
     requires counts { MayFinish one.index (T.becomes one.node) ends.old.items }
     ensures finished { IsFinished one.index (T.becomes one.node) (each_child T.leaves children.old.items)
         (each_child T.leaves children.new.items) ends.old.items ends.new.items }
-    ensures len { (vec_len children.new ≤ vec_len children.old + 1) × (vec_len ends.new ≤ vec_len ends.old + 1) }
+    ensures len { (vec_len children.new ≤ vec_len children.old + 1) × (vec_len ends.new ≤ vec_len ends.old + 1)
+        × (vec_len children.old ≤ vec_len children.new) }
     ensures capacity { (vec_capacity children.old ≤ vec_capacity children.new) × (vec_capacity ends.old ≤ vec_capacity ends.new) }
 {
     let alloc = *children.allocator();

@@ -131,7 +131,8 @@ impl<K: Ord + Dup, C: Join, T: Node<K, C>> Row<K, C, T> {
         requires { node < length self.now }
         ensures { IsTrue result → node + 1 < length self.now → place < length (get_or (in_blocks self.now) node []) }
     {
-        if node + 1 == self.children.len() {
+        let count = self.children.len();
+        if count - node == 1 {
             return true;
         }
         place < self.start(node + 1).entries - self.start(node).entries

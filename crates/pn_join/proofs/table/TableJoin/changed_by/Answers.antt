@@ -2,8 +2,7 @@ use Rattle.std.proofs.Common.{◌≡◌, true, false, [], length, vec_len, sym, 
 use Rattle.std.specs.Bool.{◌==◌}
 use Rattle.pn_join.specs.TableChanges.{AreChanges, puts}
 use Rattle.pn_join.specs.Tables.{contents_at, key_by_key}
-use Rattle.pn_join.proofs.Changing.{puts_joined, nothing_told}
-use Rattle.pn_join.proofs.PutTogether.{none_left}
+use Rattle.pn_join.proofs.Changing.{none_left, nothing_told, puts_joined}
 use Rattle.pn_join.proofs.table.TableJoin.changed_by.Goals as goal
 
 pub returns-then-is_empty-clause-joined : goal.returns-then-is_empty-clause-joined

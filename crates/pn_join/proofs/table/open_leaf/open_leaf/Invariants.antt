@@ -7,7 +7,7 @@ use Rattle.pn_join.proofs.table.open_leaf.open_leaf.Given as goal
 
 abbrev pub invariant-loop-edit : goal.invariant-loop-edit
 invariant-loop-edit g l = record {
-  parted : l.initial.edits.items ≡ l.edits.items ++ reverse (option_to_list l.first ++ l.more.items);
+  parted : l.fn.edits.items ≡ l.edits.items ++ reverse (option_to_list l.first ++ l.more.items);
   from : AllByRecursion (λ edit. l.start ≤ place edit.index) (option_to_list l.first ++ l.more.items);
 }
 

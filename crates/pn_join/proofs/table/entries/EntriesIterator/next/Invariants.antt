@@ -5,7 +5,7 @@ use Rattle.pn_join.specs.Blocks.{entries_in}
 use Rattle.pn_join.proofs.table.entries.EntriesIterator.next.Given as goal
 
 abbrev pub invariant-loop-key : goal.invariant-loop-key
-invariant-loop-key g l = l.self-inside.left ++ drop l.self-inside.next (entries_in l.self-inside.root) ≡ l.fn.self
+invariant-loop-key g l = iter_rest l.self-inside.left ++ drop l.self-inside.next (entries_in l.self-inside.root.now) ≡ l.fn.self
 
 abbrev pub decreases-loop-key : goal.decreases-loop-key
-decreases-loop-key g l = length (drop l.self-inside.next (entries_in l.self-inside.root))
+decreases-loop-key g l = length (drop l.self-inside.next (entries_in l.self-inside.root.now))

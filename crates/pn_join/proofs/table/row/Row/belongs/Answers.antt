@@ -1,7 +1,7 @@
 -- A key belongs into the node that has it.
 use Rattle.std.proofs.Common.{◌<◌, length, ap, ◌∙◌, sym, arith}
 use Rattle.pn_join.specs.Blocks.{in_blocks}
-use Rattle.pn_join.specs.Nodes.{each_child}
+use Rattle.pn_join.specs.Nodes.{node_of}
 use Rattle.pn_join.proofs.BlockFacts.{blocks_rising, blocks_some, length-in_blocks}
 use Rattle.pn_join.proofs.Lasts.{length-mapped}
 use Rattle.pn_join.proofs.Places.{leaf_that_has}
@@ -14,5 +14,5 @@ returns-in-Ok-clause-node g c = λ yes.
     let nodes = c.args.self.now in
     let list = in_blocks nodes in
     let are = rw c.self.view_is at c.self.invariant.0 in
-    let within : c.args.node < length list = omega (arith, c.if-node-len.false, c.len.ensures, length-in_blocks nodes, ap length c.self.view_is, length-mapped _ c.self.inside.children.items, c.self.inside.children.ok.0) in
+    let within : c.args.node < length list = omega (arith, c.if-node-len.false, c.len.ensures, length-in_blocks nodes, ap length c.self.view_is, length-mapped (λ child. g.T.Node.leaves (node_of child)) c.self.inside.children.items, c.self.inside.children.ok.0) in
     leaf_that_has cmp c.args.key.now g.met.K.Ord.total list (blocks_some cmp valid nodes are) (blocks_rising cmp valid nodes are) c.args.node c.in-Ok.field-0 within (sym c.in-Ok.is ∙ c.requires.index)

@@ -41,10 +41,10 @@ found_at-requires-2-clause-place g c =
 pub returns-clause-index : goal.returns-clause-index
 returns-clause-index g c =
     let i = c.search_node-node.result in
-    c.found_at.ensures.index ∙ ap (moved_by (length (all_entries (take i (in_blocks c.args.self.now))))) c.find_in-index-2.ensures.index
+    c.found_at-2.ensures.index ∙ ap (moved_by (length (all_entries (take i (in_blocks c.args.self.now))))) c.find_in-index-2.ensures.index
     ∙ index_in_row g.K.Ord.cmp g.C.Join.valid c.args.key.now g.met.K.Ord.total c.args.self.now c.find_in-index.ensures.row i c.search_node-node.ensures.node
 
 pub returns-clause-found : goal.returns-clause-found
 returns-clause-found g c =
-    c.found_at.ensures.content ∙ c.find_in-index-2.ensures.found
+    c.found_at-2.ensures.content ∙ c.find_in-index-2.ensures.found
     ∙ found_in_row g.K.Ord.cmp g.C.Join.valid c.args.key.now g.met.K.Ord.total c.args.self.now c.find_in-index.ensures.row c.search_node-node.result c.search_node-node.ensures.node

@@ -11,7 +11,7 @@ returns-in-Some g c =
     let i = c.node_of_leaf-node.result in
     let here = g.T.Node.leaves c.in-Some.node.now in
     c.leaf.ensures
-    ∙ ap (slice_get here) (c.saturating_sub.ensures ∙ ap (λ n. index - n) c.start.ensures.leaves)
+    ∙ ap (slice_get here) (c.saturating_sub.ensures ∙ ap (λ n. index - n) c.start-start.ensures.leaves)
     ∙ ap (λ node. slice_get node (index - length (all_entries (take i nodes)))) (sym (block_there nodes i here c.in-Some.ensures.node))
     ∙ sym (leaf_in_block nodes index i c.node_of_leaf-node.ensures.node)
 

@@ -7,5 +7,5 @@ use Rattle.pn_join.proofs.table.row.Row.of_sorted.Goals as goal
 
 pub returns : goal.returns
 returns g c =
-    let none : length c.loop-left.left.items ≡ 0 = grind (arith, nat_tests) in
-    all_are (entries_in c.loop-left.row) c.loop-left.left.items c.args.entries.items c.loop-left.invariant none
+    let none : length c.loop-row.left.items ≡ 0 = grind (arith, nat_tests) in
+    all_are (entries_in c.loop-row.row) c.loop-row.left.items c.args.entries.items c.loop-row.invariant none

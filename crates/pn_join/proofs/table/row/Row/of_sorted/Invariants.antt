@@ -3,8 +3,8 @@ use Rattle.std.proofs.Common.{◌≡◌, ◌++◌, length, reverse}
 use Rattle.pn_join.specs.Blocks.{entries_in}
 use Rattle.pn_join.proofs.table.row.Row.of_sorted.Given as goal
 
-abbrev pub invariant-loop-left : goal.invariant-loop-left
-invariant-loop-left g l = entries_in l.row ++ reverse l.left.items ≡ l.fn.entries.items
+abbrev pub invariant-loop-row : goal.invariant-loop-row
+invariant-loop-row g l = entries_in l.row ++ reverse l.left.items ≡ l.fn.entries.items
 
-abbrev pub decreases-loop-left : goal.decreases-loop-left
-decreases-loop-left g l = length l.left.items
+abbrev pub decreases-loop-row : goal.decreases-loop-row
+decreases-loop-row g l = length l.left.items

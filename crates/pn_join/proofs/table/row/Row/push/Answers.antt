@@ -5,6 +5,7 @@ use Rattle.pn_join.specs.Counts.{entry_ends, leaf_ends}
 use Rattle.pn_join.specs.Leaves.{all_entries, IsLeafList}
 use Rattle.pn_join.specs.Nodes.{each_child, node_of}
 use Rattle.pn_join.specs.Tables.{IsTable}
+use Rattle.pn_join.specs.declared.table.counts.Sizes.{Sizes}
 use Rattle.pn_join.proofs.BlockFacts.{all_in_blocks}
 use Rattle.pn_join.proofs.BlockGrowth.{IsTable-back, in_blocks-push, pushed_blocks}
 use Rattle.pn_join.proofs.Lasts.{map-push}
@@ -27,7 +28,7 @@ invariant_of-self-2 g c =
     let ends = c.self.inside.ends.items in
     let items : each_child leaves c.push_reserved.new.self.items ≡ own ++ node ∷ [] =
     ap (each_child leaves) (c.push_reserved.ensures.items ∙ ap (λ cs. cs ++ c.args.child ∷ []) c.in_ok-reserve.ensures.items) ∙ map-push (λ child. leaves (node_of child)) c.self.inside.children.items c.args.child in
-    let end = record { entries = c.in-Some.entries; leaves = c.in-Some-checked_add.leaves } in
+    let end : Sizes = record { entries = c.in-Some.entries; leaves = c.in-Some-checked_add.leaves } in
     let new_ends : c.push_reserved-2.new.self.items ≡ ends ++ end ∷ [] = c.push_reserved-2.ensures.items ∙ ap (λ es. es ++ end ∷ []) c.in_ok-reserve-2.ensures.items in
     let sum : c.in-Some.entries ≡ c.all_sizes-all.result.entries + c.sizes-more.result.entries = c.in-Some.ensures.1 in
     let sum_leaves : c.in-Some-checked_add.leaves ≡ c.all_sizes-all.result.leaves + c.sizes-more.result.leaves = c.in-Some-checked_add.ensures.1 in
@@ -40,7 +41,7 @@ invariant_of-self-2 g c =
     rw (items, new_ends) (
       pushed_blocks g.K.Ord.cmp g.C.Join.valid own node c.self.invariant.0 c.requires.sizes c.requires.some (rw (← c.self.view_is) at c.requires.table),
       record {
-        entries = rw (in_blocks-push own node, map-push (λ (e : _). e.entries) ends end) (pushed_counts (in_blocks own) (all_entries node) (entry_ends ends) c.in-Some.entries c.self.invariant.1.entries entries fits);
-        leaves = rw (map-push (λ (e : _). e.leaves) ends end) (pushed_counts own node (leaf_ends ends) c.in-Some-checked_add.leaves c.self.invariant.1.leaves leaves_are few);
+        entries = rw (in_blocks-push own node, map-push (λ (e : Sizes). e.entries) ends end) (pushed_counts (in_blocks own) (all_entries node) (entry_ends ends) c.in-Some.entries c.self.invariant.1.entries entries fits);
+        leaves = rw (map-push (λ (e : Sizes). e.leaves) ends end) (pushed_counts own node (leaf_ends ends) c.in-Some-checked_add.leaves c.self.invariant.1.leaves leaves_are few);
       },
     )

@@ -15,7 +15,7 @@ returns-in-Some-clause-first g c =
     let es = all_entries (g.T.Node.leaves c.in-Some.node.now) in
     let k = c.saturating_sub.result in
     let first = c.entries_from.result.now in
-    let at = c.saturating_sub.ensures ∙ ap (λ n. index - n) c.start.ensures.entries in
+    let at = c.saturating_sub.ensures ∙ ap (λ n. index - n) c.start-start.ensures.entries in
     let here = ap all_entries (block_there nodes i (g.T.Node.leaves c.in-Some.node.now) c.in-Some.ensures.node) in
     let rest = rest_in_blocks nodes index i c.node_at-node.ensures.node
     ∙ ap (λ n. drop n (all_entries (get_or nodes i [])) ++ entries_in (drop (suc i) nodes)) (sym at)
@@ -33,7 +33,7 @@ returns-in-Some-clause-some g c = λ lt.
     let at : i ≡ leaf_at 0 index list = c.node_at-node.ensures.node ∙ leaf_at-prefix 0 index list in
     let here : StandsIn list i index = stands list i index at (omega (arith, lt, ap length (all_in_blocks nodes))) in
     let entries = at_block nodes i ∙ ap all_entries (block_there nodes i (g.T.Node.leaves c.in-Some.node.now) c.in-Some.ensures.node) in
-    c.entries_from.ensures.some (omega (arith, c.saturating_sub.ensures, c.start.ensures.entries, here.starts, here.ends, ap length entries))
+    c.entries_from.ensures.some (omega (arith, c.saturating_sub.ensures, c.start-start.ensures.entries, here.starts, here.ends, ap length entries))
 
 pub returns-in-None-clause-first : goal.returns-in-None-clause-first
 returns-in-None-clause-first g c = none_of_rest (entries_in c.args.self.now) _ c.args.index refl

@@ -6,7 +6,7 @@ use Rattle.pn_join.specs.PutAt.{MayPutAt}
 use Rattle.pn_join.proofs.Each.{each_at}
 use Rattle.pn_join.proofs.Lasts.{get-mapped, length-mapped}
 use Rattle.pn_join.proofs.PutBack.{node_list}
-use Rattle.pn_join.proofs.Sealing.{if_ok_three, on_err_by, put_again, put_as_was, still_there}
+use Rattle.pn_join.proofs.Sealing.{if_ok_three, on_err_by, on_err_of, put_again, put_as_was, still_there}
 use Rattle.pn_join.proofs.table.row.joins.join_in_child.Goals as goal
 
 pub join_at-joined-requires-clause-node : goal.join_at-joined-requires-clause-node
@@ -64,5 +64,6 @@ returns-in_err-own-clause-err g c =
     let old = c.args.children.now.items in
     let i = c.args.node in
     let inside : i < length (each_child leaves old) = omega (arith, c.requires.within, length-mapped (λ child. leaves (node_of child)) old) in
-    still_there (λ child. leaves (node_of child)) old i c.take.new.node [] inside
-    (ap leaves c.in_err-own.ensures.err ∙ ap (λ child. leaves (node_of child)) c.index_mut.ensures.value ∙ get-mapped (λ child. leaves (node_of child)) old i c.index_mut.result.now [] c.requires.within)
+    on_err_of c.from_residual.result
+    (still_there (λ child. leaves (node_of child)) old i c.take.new.node [] inside
+    (ap leaves c.in_err-own.ensures.err ∙ ap (λ child. leaves (node_of child)) c.index_mut.ensures.value ∙ get-mapped (λ child. leaves (node_of child)) old i c.index_mut.result.now [] c.requires.within))

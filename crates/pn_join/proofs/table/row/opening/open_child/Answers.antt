@@ -3,7 +3,7 @@ use Rattle.std.proofs.Common.{◌≡◌, ◌+◌, ◌<◌, [], length, get_or, r
 use Rattle.pn_join.specs.Leaves.{all_entries}
 use Rattle.pn_join.specs.Nodes.{each_child, node_of}
 use Rattle.pn_join.proofs.Lasts.{get-mapped, length-mapped, map-set}
-use Rattle.pn_join.proofs.Sealing.{put_as_was, still_there}
+use Rattle.pn_join.proofs.Sealing.{on_err_of, put_as_was, still_there}
 use Rattle.pn_join.proofs.table.row.opening.open_child.Goals as goal
 
 pub open-requires-clause-node : goal.open-requires-clause-node
@@ -67,7 +67,7 @@ returns-in_err-node-clause-err g c =
     let old = c.args.children.now.items in
     let i = c.args.index in
     let inside : i < length (each_child leaves old) = omega (arith, c.requires.within, length-mapped (λ child. leaves (node_of child)) old) in
-    record {
+    on_err_of c.from_residual-in_err-node.result (record {
       nodes_stay = still_there (λ child. leaves (node_of child)) old i c.take.new.node [] inside (ap leaves c.in_err-node.ensures.err ∙ ap (λ child. leaves (node_of child)) c.index_mut.ensures.value ∙ get-mapped (λ child. leaves (node_of child)) old i c.index_mut.result.now [] c.requires.within);
       taken_stay = search rules;
-    }
+    })

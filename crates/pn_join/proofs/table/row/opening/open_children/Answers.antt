@@ -20,11 +20,6 @@ loop-index-init g c =
       more = omega (arith, ap length c.requires.none, c.args.taken.now.ok.0, c.args.ends.now.ok.1);
     }
 
-pub node_of_entry-requires : goal.node_of_entry-requires
-node_of_entry-requires g c =
-    let nodes = each_child g.T.Node.leaves c.args.children.now.items in
-    rw (c.deref.ensures.value, c.loop-index.invariant.ends) (entries_rise nodes c.args.ends.now.items c.requires.counts)
-
 pub returns-clause-same : goal.returns-clause-same
 returns-clause-same g c =
     let now = c.loop-index in
@@ -35,4 +30,28 @@ pub returns-clause-done : goal.returns-clause-done
 returns-clause-done g c = λ yes.
     let now = c.loop-index in
     let nodes = each_child g.T.Node.leaves c.args.children.now.items in
-    all_opened g.T.Node.was g.T.Node.becomes c.args.start nodes c.args.edits.now.items (each_child g.T.Node.leaves now.children.items) now.taken.items now.edits.items now.invariant.so_far (c.last_place.ensures.stops (search rules))
+    all_opened g.T.Node.was g.T.Node.becomes c.args.start nodes c.args.edits.now.items (each_child g.T.Node.leaves now.children.items) now.taken.items now.edits.items now.invariant.so_far (rw (← c.deref.ensures.value) (c.last_place.ensures.stops (search rules)))
+
+pub node_for_entry-node-requires-clause-some : goal.node_for_entry-node-requires-clause-some
+node_for_entry-node-requires-clause-some g c = ?
+
+pub node_for_entry-node-requires-clause-rise : goal.node_for_entry-node-requires-clause-rise
+node_for_entry-node-requires-clause-rise g c = ?
+
+pub open_child-requires-clause-within : goal.open_child-requires-clause-within
+open_child-requires-clause-within g c = ?
+
+pub open_child-requires-clause-node : goal.open_child-requires-clause-node
+open_child-requires-clause-node g c = ?
+
+pub open_child-requires-clause-edits : goal.open_child-requires-clause-edits
+open_child-requires-clause-edits g c = ?
+
+pub loop-index-smaller : goal.loop-index-smaller
+loop-index-smaller g c = ?
+
+pub loop-index-preserved : goal.loop-index-preserved
+loop-index-preserved g c = ?
+
+pub overflow_add-open_child : goal.overflow_add-open_child
+overflow_add-open_child g c = ?

@@ -2,7 +2,7 @@
 use Rattle.std.proofs.Common.{◌≡◌, ◌∷◌, [], ◌++◌, length, set, refl, ap, ◌∙◌, sym, arith}
 use Rattle.pn_join.specs.Nodes.{each_child, node_of}
 use Rattle.pn_join.specs.Rows.{filled}
-use Rattle.pn_join.proofs.Lasts.{length-mapped, map-set}
+use Rattle.pn_join.proofs.Lasts.{length-set, map-set}
 use Rattle.pn_join.proofs.Restored.{last_below, put_back, rest_down}
 use Rattle.pn_join.proofs.table.row.opening.restore.Goals as goal
 
@@ -19,6 +19,6 @@ loop-one-preserved g c =
     let is = ap leaves c.seal.ensures ∙ c.cancel.ensures in
     record {
       back = ap (filled g.T.Node.was c.pop.new.self.items) (map-set (λ child. leaves (node_of child)) now.children.items c.in-Some.one.index sealed) ∙ put_back g.T.Node.was now.taken.items c.pop.new.self.items c.in-Some.one (each_child leaves now.children.items) (leaves (node_of sealed)) c.in-Some.ensures.items is ∙ now.invariant.back;
-      down = rest_down now.taken.items c.pop.new.self.items c.in-Some.one (length now.children.items) c.in-Some.ensures.items now.invariant.down;
+      down = rw (length-set now.children.items c.in-Some.one.index sealed) (rest_down now.taken.items c.pop.new.self.items c.in-Some.one (length now.children.items) c.in-Some.ensures.items now.invariant.down);
       len = now.invariant.len;
     }

@@ -8,7 +8,7 @@ pub returns-clause-part : goal.returns-clause-part
 returns-clause-part g c =
     let es = all_entries (g.T.Node.leaves c.node-whole.result.now) in
     let end = c.min-end.result in
-    let at : end ≡ min c.args.to (length es) = c.min-end.ensures ∙ ap (min c.args.to) c.sizes.ensures.entries in
+    let at : end ≡ min c.args.to (length es) = c.min-end.ensures ∙ ap (min c.args.to) c.sizes-len.ensures.entries in
     ap (λ n. all_entries (g.T.Node.leaves n)) c.seal.ensures
     ∙ c.in_ok-part.ensures.part
     ∙ slice_to_end es c.args.from c.args.to end at

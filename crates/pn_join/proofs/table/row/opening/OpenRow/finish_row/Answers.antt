@@ -22,6 +22,7 @@ loop-one-init g c =
       };
       len = omega (arith, given.1, ap length given.0, inside.taken.ok.0);
       capacity = omega (arith, invariant.4, inside.children.ok.0);
+      some = omega (arith, invariant.6, inside.children.ok.0);
       more = omega (arith, invariant.5, inside.ends.ok.0);
     })
 
@@ -74,5 +75,29 @@ loop-one-preserved g c =
       finishing = one_finished g.T.Node.was g.T.Node.becomes _ c.requires.fits c.in-Some.one (into_iter_items c.next.new.self) (each_child leaves now.children.items) now.ends.items h (each_child leaves c.finish_child.new.children.items) c.finish_child.new.ends.items c.finish_child.ensures.finished;
       len = omega (arith, steps.1, ap length steps.0, now.invariant.len);
       capacity = omega (arith, now.invariant.capacity, ap length steps.0, c.finish_child.ensures.len.0, c.finish_child.ensures.capacity.0);
+      some = omega (arith, now.invariant.some, c.finish_child.ensures.len.2);
       more = omega (arith, now.invariant.more, ap length steps.0, c.finish_child.ensures.len.1, c.finish_child.ensures.capacity.1);
     }
+
+pub loop-one-preserved-then-finish_child : goal.loop-one-preserved-then-finish_child
+loop-one-preserved-then-finish_child g c =
+    let now = c.loop-one in
+    let leaves = g.T.Node.leaves in
+    let steps = c.in-Some.ensures.steps in
+    let h = rw steps.0 at now.invariant.finishing in
+    record {
+      finishing = one_finished g.T.Node.was g.T.Node.becomes _ c.requires.fits c.in-Some.one (into_iter_items c.next.new.self) (each_child leaves now.children.items) now.ends.items h (each_child leaves c.finish_child.new.children.items) c.finish_child.new.ends.items c.finish_child.ensures.finished;
+      len = omega (arith, steps.1, ap length steps.0, now.invariant.len);
+      capacity = omega (arith, now.invariant.capacity, ap length steps.0, c.finish_child.ensures.len.0, c.finish_child.ensures.capacity.0);
+      some = omega (arith, now.invariant.some, c.finish_child.ensures.len.2);
+      more = omega (arith, now.invariant.more, ap length steps.0, c.finish_child.ensures.len.1, c.finish_child.ensures.capacity.1);
+    }
+
+pub invariant_of-result : goal.invariant_of-result
+invariant_of-result g c = ?
+
+pub returns-clause-put : goal.returns-clause-put
+returns-clause-put g c = ?
+
+pub returns-clause-some : goal.returns-clause-some
+returns-clause-some g c = ?
