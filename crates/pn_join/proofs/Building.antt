@@ -1,8 +1,9 @@
 -- Entries that become leaves one after another, where those that are left stand last first.
 use Rattle.std.proofs.Common.{◌≡◌, ℕ, ◌<◌, List, [], ◌∷◌, ◌++◌, length, reverse, take, drop, Ordering, sym, ap, ◌∙◌, arith, append-nil, append_assoc, take-append-drop}
+use Rattle.std.specs.List.{AllByRecursion}
 use Rattle.std.proofs.lemmas.List.{length-append, length-reverse, reverse-append}
 use Rattle.pn_join.specs.Blocks.{entries_in}
-use Rattle.pn_join.specs.Leaves.{all_entries, IsLeafList}
+use Rattle.pn_join.specs.Leaves.{all_entries, IsLeaf, IsLeafList}
 use Rattle.pn_join.specs.Tables.{IsTable}
 use Rattle.pn_join.proofs.BlockFacts.{some_entries, some_leaves}
 use Rattle.pn_join.proofs.BlockGrowth.{entries_push}
@@ -26,6 +27,11 @@ module _ {A : Type 0} where
   -- what is taken off is no longer left
   pub fewer_left : (part rest left : List A) → part ++ reverse rest ≡ reverse left → 0 < length part → length rest < length left
   fewer_left part rest left is some = omega (arith, some, ap length is, length-append part (reverse rest), length-reverse rest, length-reverse left)
+
+  -- leaves have entries
+  pub made_has : (leaves : List (List A)) → AllByRecursion (λ leaf. IsLeaf leaf) leaves → 0 < length leaves → 0 < length (all_entries leaves)
+  made_has [] sizes some = absurd (omega (arith, some))
+  made_has (l ∷ ls) sizes some = omega (arith, sizes.0.0, length-append l (all_entries ls))
 
   -- where none is left, the entries so far are all
   pub all_are : (now rest whole : List A) → now ++ reverse rest ≡ whole → length rest ≡ 0 → now ≡ whole

@@ -1,5 +1,5 @@
 -- Leaves that are opened for edits, and the edits put into them.
-use Rattle.std.proofs.Common.{◌≡◌, ℕ, ◌+◌, ◌^◌, ◌<◌, ◌≤◌, List, [], ◌∷◌, ◌++◌, length, reverse, Option, Some, None, Result, Ok, Err, refl, sym, ap, ◌∙◌, arith, append_assoc}
+use Rattle.std.proofs.Common.{◌≡◌, ℕ, ◌+◌, ◌^◌, ◌<◌, ◌≤◌, List, [], ◌∷◌, ◌++◌, length, reverse, Option, Some, None, IfSome, Result, Ok, Err, refl, sym, ap, ◌∙◌, subst, arith, append-nil, append_assoc}
 use Rattle.std.specs.List.{AllByRecursion}
 use Rattle.std.specs.Option.{option_to_list}
 use Rattle.std.proofs.lemmas.List.{length-append, length-reverse, reverse-append}
@@ -50,3 +50,27 @@ module _ {K C : Type 0} where
   -- the entries of a leaf, with edits put
   pub turn_of_leaf : (start : ℕ) (es : List (K × C)) (mine : List (Edit K C)) → put_in_turn start es mine ≡ put_in_turn start (all_entries (leaf_of es)) mine
   turn_of_leaf start es mine = ap (λ xs. put_in_turn start xs mine) (sym (all_leaf_of es))
+
+  -- the edits after the first
+  pub for_back : (start n : ℕ) (first more : List (Edit K C)) → AreFor start n (first ++ more) → AreFor start n more
+  for_back start n [] more h = h
+  for_back start n (e ∷ first) more h = for_back start n first more h.1
+
+  pub from_first : (start : ℕ) (first : Option (Edit K C)) → IfSome first (λ edit. start ≤ place edit.index) → AllByRecursion (λ (edit : Edit K C). start ≤ place edit.index) (option_to_list first ++ [])
+  from_first start None h = tt
+  from_first start (Some edit) h = (h, tt)
+
+  -- one more edit is taken off after the first
+  pub next_off_more : (edits left rest first more new : List (Edit K C)) (edit : Edit K C) → edits ≡ left ++ reverse (first ++ more) → left ≡ rest ++ edit ∷ [] → new ≡ more ++ edit ∷ [] → edits ≡ rest ++ reverse (first ++ new)
+  next_off_more edits left rest first more new edit parted is added =
+      next_off edits left rest (first ++ more) edit parted is
+      ∙ ap (λ es. rest ++ reverse es) (append_assoc first more (edit ∷ []) ∙ ap (λ es. first ++ es) (sym added))
+
+  pub from_more : (start : ℕ) (first more new : List (Edit K C)) (edit : Edit K C) → new ≡ more ++ edit ∷ [] → AllByRecursion (λ (e : Edit K C). start ≤ place e.index) (first ++ more) → start ≤ place edit.index → AllByRecursion (λ (e : Edit K C). start ≤ place e.index) (first ++ new)
+  from_more start [] more new edit added h le = subst (AllByRecursion (λ (e : Edit K C). start ≤ place e.index)) (sym added) (each_append (λ (e : Edit K C). start ≤ place e.index) more (edit ∷ []) h (le, tt))
+  from_more start (f ∷ first) more new edit added h le = (h.0, from_more start first more new edit added h.1 le)
+
+  -- no more edits are taken off
+  pub opening_off : {T O : Type 0} (leaves : T → List (List (K × C))) (was : O → List (List (K × C))) (becomes : O → List (K × C)) (start : ℕ) (node : List (List (K × C))) (edits left now mine : List (Edit K C)) (result : Opening T O) → edits ≡ left ++ reverse mine → AllByRecursion (λ (edit : Edit K C). start ≤ place edit.index) mine → left ≡ now ++ [] → StopsBefore start now → IsOpeningFor leaves was becomes start node mine result → IsOpening leaves was becomes start node edits now result
+  opening_off leaves was becomes start node edits left now mine result parted from same stops is =
+      opening_of leaves was becomes start node edits now mine result (parted ∙ ap (λ l. l ++ reverse mine) (same ∙ append-nil now)) from stops is

@@ -38,7 +38,9 @@ module _ {A : Type 0} where
   -- the items up to the end of a list
   pub take_next : (lists : List (List A)) (i : ℕ) → length (all_entries (take (i + 1) lists)) ≡ length (all_entries (take i lists)) + length (get_or lists i [])
   take_next [] zero = omega arith
-  take_next [] (suc i) = omega arith
+  take_next [] (suc i) =
+      let next : suc i + 1 ≡ suc (i + 1) = omega arith in
+      omega (arith, ap (λ n. length (all_entries (take {A = List A} n []))) next)
   take_next (l ∷ ls) zero = omega (arith, length-append l [])
   take_next (l ∷ ls) (suc i) =
       let next : suc i + 1 ≡ suc (i + 1) = omega arith in

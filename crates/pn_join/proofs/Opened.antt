@@ -71,7 +71,7 @@ fit_one first count end last (Ok i) le most at among = fit i le among where
 fit_one first count end last (Err i) le most at among = omega (arith, le, most)
 
 -- a place counted from a start
-place_from : (start : ℕ) (index : Result ℕ ℕ) → place (from_start start index) ≡ place index - start
+pub place_from : (start : ℕ) (index : Result ℕ ℕ) → place (from_start start index) ≡ place index - start
 place_from start (Ok i) = refl
 place_from start (Err i) = refl
 
@@ -221,12 +221,12 @@ module _ {K C O : Type 0} (was : O → List (List (K × C))) (becomes : O → Li
         local (Err j) le lt = omega (arith, le, lt)
 
   -- the last edit, and the node that it comes into
-  pub next_comes : (now : List (List (List (K × C)))) (taken : List (Taken O)) (left : List (Edit K C)) → OpenedSoFar now taken left → AreEditsWithin (start + length (entries_in nodes)) edits → 0 < length nodes → (index : ℕ) → start ≤ index → option_map (λ edit. place edit.index) (last_of left) ≡ Some index → (i at : ℕ) → at ≡ prefix_len (λ end. leb end (index - start)) (counts_after 0 (in_blocks nodes)) → i ≡ min at (length nodes - 1) → (last : Edit K C) × (last_of left ≡ Some last) × (start ≤ place last.index) × ComesInto (in_blocks nodes) i (from_start start last.index)
+  pub next_comes : (now : List (List (List (K × C)))) (taken : List (Taken O)) (left : List (Edit K C)) → OpenedSoFar now taken left → AreEditsWithin (start + length (entries_in nodes)) edits → 0 < length nodes → (index : ℕ) → start ≤ index → option_map (λ edit. place edit.index) (last_of left) ≡ Some index → (i at : ℕ) → at ≡ prefix_len (λ end. leb end (index - start)) (counts_after 0 (in_blocks nodes)) → i ≡ min at (length nodes - 1) → (last : Edit K C) × (last_of left ≡ Some last) × (start ≤ place last.index) × (place last.index ≡ index) × ComesInto (in_blocks nodes) i (from_start start last.index)
   next_comes now taken left h are some index from is i at found most =
       let there = last_there left index is in
       let same : place there.0.index ≡ index = there.2 in
       let later : start ≤ place there.0.index = omega (arith, same, from) in
-      (there.0, there.1, later, last_comes now taken left h are some there.0 there.1 later i at (found ∙ ap (λ n. prefix_len (λ end. leb end (n - start)) (counts_after 0 (in_blocks nodes))) (sym same)) most)
+      (there.0, there.1, later, same, last_comes now taken left h are some there.0 there.1 later i at (found ∙ ap (λ n. prefix_len (λ end. leb end (n - start)) (counts_after 0 (in_blocks nodes))) (sym same)) most)
 
   module _ (now : List (List (List (K × C)))) (taken : List (Taken O)) (left : List (Edit K C)) (h : OpenedSoFar now taken left) (last : Edit K C) (is : last_of left ≡ Some last) (from : start ≤ place last.index) (i : ℕ) (come : ComesInto (in_blocks nodes) i (from_start start last.index)) where
     pub node_within : i < length nodes

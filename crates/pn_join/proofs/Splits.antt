@@ -1,13 +1,13 @@
 -- The last nodes of a row, which are taken off.
-use Rattle.std.proofs.Common.{◌≡◌, ℕ, zero, suc, ◌+◌, ◌^◌, ◌<◌, ◌≤◌, List, [], ◌∷◌, ◌++◌, length, take, drop, Option, Some, None, IfSome, unwrap_or, option_map, Ordering, refl, sym, ap, ◌∙◌, arith, take-append-drop}
+use Rattle.std.proofs.Common.{◌≡◌, ℕ, zero, suc, ◌+◌, ◌-◌, ◌^◌, ◌<◌, ◌≤◌, List, [], ◌∷◌, ◌++◌, length, take, drop, Option, Some, None, IfSome, unwrap_or, option_map, Ordering, refl, sym, ap, ◌∙◌, arith, take-append-drop}
 use Rattle.std.specs.List.{AllByRecursion}
-use Rattle.std.proofs.lemmas.List.{length-append}
+use Rattle.std.proofs.lemmas.List.{length-append, length-drop}
 use Rattle.pn_join.specs.Blocks.{in_blocks, entries_in, AreBlocks}
 use Rattle.pn_join.specs.Counts.{AreCounts}
 use Rattle.pn_join.specs.Leaves.{all_entries, IsLeaf, IsLeafList}
 use Rattle.pn_join.specs.Nodes.{both, AreParts}
 use Rattle.pn_join.specs.declared.table.counts.Sizes.{Sizes}
-use Rattle.pn_join.proofs.BlockFacts.{all_in_blocks}
+use Rattle.pn_join.proofs.BlockFacts.{all_in_blocks, take_whole}
 use Rattle.pn_join.proofs.BlockGrowth.{all_append, IsLeafList-back, IsLeafList-prefix}
 use Rattle.pn_join.proofs.Each.{each_back, each_prefix}
 
@@ -35,6 +35,11 @@ module _ {K X : Type 0} (cmp : K → K → Ordering) (valid : X → Type 0) wher
   pub each_list : (nodes : List (List (List (K × X)))) → IsLeafList cmp valid (all_entries nodes) → AllByRecursion (λ node. IsLeafList cmp valid node) nodes
   each_list [] list = tt
   each_list (n ∷ ns) list = (IsLeafList-prefix cmp valid n (all_entries ns) list, each_list ns (IsLeafList-back cmp valid n (all_entries ns) list))
+
+module _ {A : Type 0} where
+  -- the slice from an index on
+  pub rest_range : (xs : List A) (n : ℕ) → take (length xs - n) (drop n xs) ≡ drop n xs
+  rest_range xs n = take_whole (drop n xs) (length xs - n) (omega (arith, length-drop n xs))
 
 module _ {A : Type 0} where
   -- nodes with leaves have leaves together

@@ -75,6 +75,7 @@ pub fn pop_from<K, C>(edits: &mut Vec<Edit<K, C>>, start: usize) -> Option<Edit<
 pub fn last_place<K, C>(edits: &[Edit<K, C>], start: usize) -> Option<usize>
     ensures some { IfSome result (λ index. (start ≤ index) × (option_map (λ edit. place edit.index) (last_of edits.now) ≡ Some index)) }
     ensures stops { result ≡ None → StopsBefore start edits.now }
+    ensures fits { IfSome result (λ index. index < 2 ^ 64) }
 {
     let last = edits.last()?;
     let index = place_of(&last.index);

@@ -1,10 +1,12 @@
 -- The second goes on from the first.
-use Rattle.std.proofs.Common.{◌≡◌, ◌++◌, ◌∷◌, [], sym, ap, ◌∙◌, append_assoc}
-use Rattle.std.proofs.lemmas.Result.{on_ok_weaker}
+use Rattle.std.proofs.Common.{◌≡◌, ◌<◌, ◌++◌, length, ap, ◌∙◌, append_assoc, arith}
+use Rattle.std.proofs.lemmas.List.{length-append}
 use Rattle.pn_join.specs.Blocks.{entries_in}
 use Rattle.pn_join.specs.Leaves.{all_entries}
 use Rattle.pn_join.specs.Nodes.{node_of}
+use Rattle.pn_join.proofs.BlockFacts.{has_leaves}
 use Rattle.pn_join.proofs.BlockGrowth.{entries_push, IsTable-back}
+use Rattle.pn_join.proofs.Building.{made_has}
 use Rattle.pn_join.proofs.Growing.{first_table}
 use Rattle.pn_join.proofs.table.row.Row.push_both.Goals as goal
 
@@ -32,4 +34,9 @@ append-requires-clause-table g c =
     (IsTable-back g.K.Ord.cmp g.C.Join.valid (entries_in c.args.self.now) (all_entries (leaves (node_of c.args.first)) ++ all_entries (leaves (node_of c.args.second))) c.requires.table)
 
 pub push-requires-2-clause-some : goal.push-requires-2-clause-some
-push-requires-2-clause-some g c = ?
+push-requires-2-clause-some g c =
+    let leaves = g.T.Node.leaves in
+    let first = leaves (node_of c.args.first) in
+    let has : 0 < length (all_entries first) = made_has first c.requires.sizes.0 c.requires.some.0 in
+    let some : 0 < length (all_entries (leaves c.append.new.self)) = omega (arith, has, ap length c.in_ok-append.ensures.both, length-append (all_entries (leaves c.in_ok-both.both)) (all_entries (leaves c.in_ok-take.field-0)), ap (λ n. length (all_entries n)) c.in_ok-both.ensures.ok) in
+    rw c.seal.ensures (has_leaves (leaves c.append.new.self) some)

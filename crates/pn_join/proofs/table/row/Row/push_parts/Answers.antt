@@ -18,4 +18,4 @@ pub loop-taken-smaller : goal.loop-taken-smaller
 loop-taken-smaller g c =
     let part = g.T.Node.leaves (node_of c.in_ok-node.node) in
     let some : 0 < length (all_entries part) = have_entries g.K.Ord.cmp g.C.Join.valid part c.in_ok-node.ensures.leaf_list c.in_ok-node.ensures.some in
-    omega (arith, some, c.sizes.ensures.entries, ap (λ n. length (all_entries (g.T.Node.leaves n))) c.node.ensures, c.in_ok-node.ensures.within)
+    omega (arith, some, c.sizes-taken.ensures.entries, ap (λ n. length (all_entries (g.T.Node.leaves n))) c.node.ensures, c.in_ok-node.ensures.within)

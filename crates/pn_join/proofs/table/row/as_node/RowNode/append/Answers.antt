@@ -6,8 +6,8 @@ use Rattle.pn_join.proofs.table.row.as_node.RowNode.append.Goals as goal
 
 pub push_slice-requires-clause-table : goal.push_slice-requires-clause-table
 push_slice-requires-clause-table g c =
-    rw (whole_slice (entries_in c.args.other) c.all_sizes.result.entries c.all_sizes.ensures.entries) c.requires.table
+    rw (whole_slice (entries_in c.args.other) c.all_sizes-len.result.entries c.all_sizes-len.ensures.entries) c.requires.table
 
 pub returns-clause-both : goal.returns-clause-both
 returns-clause-both g c =
-    c.in_ok-push_slice.ensures ∙ ap (λ es. entries_in c.args.self.now ++ es) (whole_slice (entries_in c.args.other) c.all_sizes.result.entries c.all_sizes.ensures.entries)
+    c.in_ok-push_slice.ensures ∙ ap (λ es. entries_in c.args.self.now ++ es) (whole_slice (entries_in c.args.other) c.all_sizes-len.result.entries c.all_sizes-len.ensures.entries)

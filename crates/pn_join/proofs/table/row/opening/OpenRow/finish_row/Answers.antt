@@ -1,7 +1,8 @@
 -- One more node is put back.
-use Rattle.std.proofs.Common.{◌≡◌, ◌∷◌, [], length, get_or, refl, ap, ◌∙◌, sym, arith, rules}
+use Rattle.std.proofs.Common.{◌≡◌, ◌<◌, ◌∷◌, [], length, get_or, refl, ap, ◌∙◌, sym, arith, rules}
 use Rattle.std.specs.Vec.Iter.{into_iter_items, into_iter_len}
 use Rattle.pn_join.specs.Nodes.{each_child, node_of}
+use Rattle.pn_join.proofs.Changing.{none_left}
 use Rattle.pn_join.proofs.Finished.{all_finished, front_list, may_finish, node_and_end, one_finished, one_fits, one_table}
 use Rattle.pn_join.proofs.Lasts.{length-mapped}
 use Rattle.pn_join.proofs.table.row.opening.OpenRow.finish_row.Goals as goal
@@ -94,10 +95,25 @@ loop-one-preserved-then-finish_child g c =
     }
 
 pub invariant_of-result : goal.invariant_of-result
-invariant_of-result g c = ?
+invariant_of-result g c =
+    let now = c.loop-one in
+    let nodes = each_child g.T.Node.leaves now.children.items in
+    let empty : into_iter_items now.one-iterator ≡ [] = none_left (into_iter_items now.one-iterator) (omega (arith, c.in-None.ensures.steps.0, now.invariant.len)) in
+    let done = rw empty at now.invariant.finishing in
+    let all = all_finished g.T.Node.was g.T.Node.becomes g.K.Ord.cmp g.C.Join.valid c.args.self.1 nodes now.ends.items done c.requires.table in
+    (all.0, done.counts)
 
 pub returns-clause-put : goal.returns-clause-put
-returns-clause-put g c = ?
+returns-clause-put g c =
+    let now = c.loop-one in
+    let nodes = each_child g.T.Node.leaves now.children.items in
+    let empty : into_iter_items now.one-iterator ≡ [] = none_left (into_iter_items now.one-iterator) (omega (arith, c.in-None.ensures.steps.0, now.invariant.len)) in
+    let done = rw empty at now.invariant.finishing in
+    let all = all_finished g.T.Node.was g.T.Node.becomes g.K.Ord.cmp g.C.Join.valid c.args.self.1 nodes now.ends.items done c.requires.table in
+    all.1
 
 pub returns-clause-some : goal.returns-clause-some
-returns-clause-some g c = ?
+returns-clause-some g c =
+    let now = c.loop-one in
+    let some : 0 < length (each_child g.T.Node.leaves now.children.items) = omega (arith, now.invariant.some, length-mapped (λ child. g.T.Node.leaves (node_of child)) now.children.items, now.children.ok.0) in
+    some
