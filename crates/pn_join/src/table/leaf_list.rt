@@ -160,10 +160,14 @@ impl<K: Ord + Dup, C: Join> LeafList<K, C> {
     {
         self.recall_leaf_list();
         if self.root.is_empty() {
-            return self.push_first(key, content);
+            let pushed = self.push_first(key, content);
+            self.recall_leaf_list();
+            return pushed;
         }
         let (index, _) = self.root.find_key(&key);
-        self.root.join_in_row(index, key, content)
+        let joined = self.root.join_in_row(index, key, content);
+        self.recall_leaf_list();
+        joined
     }
 
     /// Makes the first leaf, of one entry. An error leaves none.
@@ -176,7 +180,9 @@ impl<K: Ord + Dup, C: Join> LeafList<K, C> {
         let alloc = self.alloc();
         let mut entries = Vec::with_capacity(alloc, FIRST_CAPACITY)?;
         entries.push_reserved((key, content));
-        self.root = Row::of_sorted(alloc, entries)?;
+        let root = Row::of_sorted(alloc, entries)?;
+        root.recall_row();
+        self.root = root;
         Ok(())
     }
 

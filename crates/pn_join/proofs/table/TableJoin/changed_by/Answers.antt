@@ -18,7 +18,7 @@ returns-then-is_empty-clause-joined g c =
     let none : changes ≡ [] = none_left changes (omega (arith, zero, c.in_ok-changes.changes.ok.0)) in
     let told : AreChanges cmp meaning joined valid own other changes = rw c.in_ok-joined.ensures at c.in_ok-changes.ensures.changes in
     ap (λ cs. contents_at cmp meaning (puts cmp own cs)) (sym none)
-    ∙ puts_joined cmp g.met.K.Ord.total meaning joined g.met.C.Join.laws valid own other changes c.in_ok-changes.ensures.tables.1 told
+    ∙ puts_joined cmp g.met.K.Ord.total meaning joined valid own other changes c.in_ok-changes.ensures.tables.1 told
 
 pub returns-clause-differs : goal.returns-clause-differs
 returns-clause-differs g c = λ same.

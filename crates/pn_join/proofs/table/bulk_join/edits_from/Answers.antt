@@ -9,8 +9,8 @@ loop-key-init g c =
     rw (c.new-edits.ensures.items, c.into_iter-key-iterator.ensures.into_iter_gives, c.new-key-items.ensures)
     (no_edits g.K.Ord.cmp g.C.Join.meaning g.C.Join.joined g.C.Join.valid c.args.root.now (entries_in c.args.other.now))
 
-pub edit_for-edit-requires : goal.edit_for-edit-requires
-edit_for-edit-requires g c =
+pub edit_for-requires : goal.edit_for-requires
+edit_for-requires g c =
     let so_far = rw c.in-Some.ensures.steps at c.loop-key.invariant in
     left_valid g.K.Ord.cmp g.C.Join.meaning g.C.Join.joined g.C.Join.valid c.args.root.now (entries_in c.args.other.now) (c.in-Some.key.now, c.in-Some.content.now) c.next.new.self c.loop-key.edits.items c.recall_row.ensures.leaf_list.table so_far
 

@@ -1,5 +1,6 @@
 -- One more edit is taken off.
 use Rattle.std.proofs.Common.{length, refl}
+use Rattle.std.specs.Option.{option_to_list}
 use Rattle.pn_join.specs.Nodes.{leaf_of}
 use Rattle.pn_join.proofs.LeafOpenings.{first_off, for_leaf, from_first, from_more, next_off_more, opening_off}
 use Rattle.pn_join.proofs.table.open_leaf.open_leaf.Goals as goal
@@ -15,8 +16,8 @@ pub loop-edit-preserved : goal.loop-edit-preserved
 loop-edit-preserved g c =
     let now = c.loop-edit in
     record {
-      parted = next_off_more c.args.edits.now.items now.edits.items c.pop_from.new.edits.items _ now.more.items c.push.new.self.items c.in-Some.edit now.invariant.parted c.in-Some.ensures.parted c.in-Ok.ensures.items;
-      from = from_more c.args.start _ now.more.items c.push.new.self.items c.in-Some.edit c.in-Ok.ensures.items now.invariant.from c.in-Some.ensures.from;
+      parted = next_off_more c.args.edits.now.items now.edits.items c.pop_from.new.edits.items (option_to_list now.first-1) now.more.items c.push.new.self.items c.in-Some.edit now.invariant.parted c.in-Some.ensures.parted c.in-Ok.ensures.items;
+      from = from_more c.args.start (option_to_list now.first-1) now.more.items c.push.new.self.items c.in-Some.edit c.in-Ok.ensures.items now.invariant.from c.in-Some.ensures.from;
     }
 
 pub open_with-requires-clause-edits : goal.open_with-requires-clause-edits

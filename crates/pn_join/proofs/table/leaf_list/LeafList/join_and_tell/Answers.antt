@@ -10,12 +10,12 @@ use Rattle.pn_join.proofs.EditsFrom.{edits_rise}
 use Rattle.pn_join.proofs.SamePuts.{same_indexed, same_puts, same_rise, same_valid}
 use Rattle.pn_join.proofs.table.leaf_list.LeafList.join_and_tell.Goals as goal
 
-pub put_edits-is_done-requires-clause-indexed : goal.put_edits-is_done-requires-clause-indexed
-put_edits-is_done-requires-clause-indexed g c =
+pub put_edits-requires-clause-indexed : goal.put_edits-requires-clause-indexed
+put_edits-requires-clause-indexed g c =
     same_indexed g.K.Ord.cmp (entries_in c.self.inside.root) c.take_changes.new.edits.items c.in_ok-edits.edits.items c.in_ok-changes.ensures.same c.in_ok-edits.ensures.indexed
 
-pub put_edits-is_done-requires-clause-rising : goal.put_edits-is_done-requires-clause-rising
-put_edits-is_done-requires-clause-rising g c =
+pub put_edits-requires-clause-rising : goal.put_edits-requires-clause-rising
+put_edits-requires-clause-rising g c =
     let cmp = g.K.Ord.cmp in
     let valid = g.C.Join.valid in
     let other = entries_in c.other.inside.root in
@@ -23,8 +23,8 @@ put_edits-is_done-requires-clause-rising g c =
     same_rise cmp c.take_changes.new.edits.items c.in_ok-edits.edits.items c.in_ok-changes.ensures.same
     (edits_rise cmp g.C.Join.meaning g.C.Join.joined valid (entries_in c.self.inside.root) other c.in_ok-edits.edits.items table c.in_ok-edits.ensures.changes)
 
-pub put_edits-is_done-requires-clause-valid : goal.put_edits-is_done-requires-clause-valid
-put_edits-is_done-requires-clause-valid g c =
+pub put_edits-requires-clause-valid : goal.put_edits-requires-clause-valid
+put_edits-requires-clause-valid g c =
     let cmp = g.K.Ord.cmp in
     let meaning = g.C.Join.meaning in
     let joined = g.C.Join.joined in
@@ -52,6 +52,6 @@ returns-clause-done g c = λ yes.
     let other = entries_in c.other.inside.root in
     let table : IsTable cmp valid other = rw (← c.other.view_is) at c.recall_leaf_list-2.ensures.table in
     ap (contents_at cmp meaning) (c.in_ok-is_done.ensures.done yes ∙ same_puts cmp own c.take_changes.new.edits.items c.in_ok-edits.edits.items c.in_ok-changes.ensures.same)
-    ∙ puts_joined cmp g.met.K.Ord.total meaning joined g.met.C.Join.laws valid own other (changes_in c.in_ok-edits.edits.items) table c.in_ok-edits.ensures.changes
+    ∙ puts_joined cmp g.met.K.Ord.total meaning joined valid own other (changes_in c.in_ok-edits.edits.items) table c.in_ok-edits.ensures.changes
     ∙ ap (λ leaves. key_by_key joined (contents_at cmp meaning (all_entries leaves)) (contents_at cmp meaning other)) c.self.view_is
     ∙ ap (λ leaves. key_by_key joined (contents_at cmp meaning (all_entries c.args.self.now)) (contents_at cmp meaning (all_entries leaves))) c.other.view_is
