@@ -1,4 +1,4 @@
-"""What the benches share: processor time and instructions of a run, and tables."""
+"""What the benches share: processor time and instructions of a run, servers that are measured beside one another, and tables."""
 import dataclasses
 import os
 import pathlib
@@ -8,9 +8,11 @@ import shutil
 import subprocess
 import sys
 import tempfile
-from collections.abc import Callable
+from collections.abc import Callable, Sequence
 
 CALLGRIND = ["valgrind", "--tool=callgrind", "--callgrind-out-file=/dev/null"]
+TICKS = os.sysconf("SC_CLK_TCK")
+OPTIONS = ["-std=c11", "-D_GNU_SOURCE", "-O2", "-Wall", "-Wextra", "-Wconversion", "-Wshadow", "-Werror", "-pthread"]
 
 
 @dataclasses.dataclass(frozen=True)
@@ -110,3 +112,37 @@ def are_programs(*words: str) -> bool:
     for word in missing:
         print(f"bench: {word} is no program: run make build", file=sys.stderr)
     return not missing
+
+
+def build_c(source: pathlib.Path, program: pathlib.Path) -> None:
+    program.parent.mkdir(parents=True, exist_ok=True)
+    subprocess.run(["cc", *OPTIONS, "-o", str(program), str(source)], check=True)
+
+
+def seconds_so_far(process: int) -> float:
+    """The processor time that a process has taken."""
+    fields = pathlib.Path(f"/proc/{process}/stat").read_text().rpartition(")")[2].split()
+    return (int(fields[11]) + int(fields[12])) / TICKS
+
+
+class Server:
+    """A process that serves sessions, which is ended with the block. It is ready once a line of its output has the word."""
+
+    def __init__(self, command: Sequence[str], port: int, word: bytes = b"listening", errors: int | None = None) -> None:
+        self.program, self.port, self.word = command[0], port, word
+        self.process = subprocess.Popen(command, stdin=subprocess.DEVNULL, stdout=subprocess.PIPE, stderr=errors)
+        assert self.process.stdout is not None
+        self.stdout = self.process.stdout
+
+    def __enter__(self) -> "Server":
+        if not any(self.word in line for line in self.stdout):
+            raise ChildProcessError(f"{self.program} does not listen")
+        return self
+
+    def __exit__(self, *_: object) -> None:
+        self.process.kill()
+        self.process.wait()
+        self.stdout.close()
+
+    def processor_seconds(self) -> float:
+        return seconds_so_far(self.process.pid)

@@ -5,8 +5,7 @@ from typing import Any
 
 import pytest
 
-from common.options import OPTIONS, PROGRAMS, program_at
-from common.parts import abouts, first, modules
+from common.parts import OPTIONS, PROGRAMS, abouts, first, modules, program_at
 from serving.staying import raise_descriptors
 
 

@@ -4,7 +4,6 @@ package main
 import (
 	"context"
 	"crypto/tls"
-	_ "embed" // for the help
 	"encoding/json"
 	"errors"
 	"flag"
@@ -27,8 +26,15 @@ const version = "0.3.0"
 // lastTime is how long what was asked is still answered once it is told to stop.
 const lastTime = 10 * time.Second
 
-//go:embed help.txt
-var help string
+const help = `Answers HTTP by what regions of pnuts have: records, pages of them, and their changes as they come.
+
+  pnuts-http [OPTION ..] REGION[,REGION ..] ..
+
+REGION is tcp://HOST:PORT, tls://HOST:PORT or unix:PATH. Regions with commas between them have the same streams, and any of them may fail.
+With --bounds, each further word has the regions of a further range of keys.
+
+Options:
+`
 
 // Words are what the program was started with: among them, of each range the control socket and the regions.
 type words struct {

@@ -1,15 +1,12 @@
 // A client of many connections to 127.0.0.1, over one epoll: each keeps a number of requests in flight, for a time.
 // It says how many replies came and in how many seconds. Each line of a file is a request, or a key that Redis is asked for.
-#include <arpa/inet.h>
-#include <netinet/in.h>
-#include <netinet/tcp.h>
 #include <sys/epoll.h>
 #include <time.h>
 #include <unistd.h>
 
 #include "../common.h"
 
-enum { MOST_CONNECTIONS = 65536, MOST_IN_FLIGHT = 1024, INPUT_ROOM = 1 << 18, EVENTS = 256 };
+enum { MOST_CONNECTIONS = 65536, MOST_IN_FLIGHT = 1024, ROOM = 1 << 18, EVENTS = 256 };
 
 static const char USAGE[] =
     "usage: load lines|redis PORT CONNECTIONS IN_FLIGHT MILLISECONDS FILE\n"
@@ -37,8 +34,8 @@ static struct request *requests;
 static size_t request_count;
 static size_t in_flight;
 static int is_redis;
-static char input[INPUT_ROOM];
-static char output[INPUT_ROOM];
+static char input[ROOM];
+static char output[ROOM];
 
 static double now(void) {
     struct timespec time;
@@ -55,7 +52,7 @@ static struct request request_of(const char *line, size_t size) {
     made.bytes[made.size] = '\r';
     made.bytes[made.size + (size_t)is_redis] = '\n';
     made.size += 1 + (size_t)is_redis;
-    if (made.size > INPUT_ROOM) fail("a line is too long");
+    if (made.size > ROOM) fail("a line is too long");
     return made;
 }
 
@@ -76,24 +73,17 @@ static void read_requests(const char *path) {
 }
 
 static int connect_to(long port) {
-    int made = socket(AF_INET, SOCK_STREAM, 0), yes = 1;
+    int made = socket(AF_INET, SOCK_STREAM, 0);
     if (made < 0) fail("socket");
-    struct sockaddr_in address = {.sin_family = AF_INET, .sin_port = htons((in_port_t)port)};
-    address.sin_addr.s_addr = htonl(INADDR_LOOPBACK);
+    struct sockaddr_in address = loopback(port);
     if (connect(made, (struct sockaddr *)&address, sizeof address)) fail("connect");
-    if (setsockopt(made, IPPROTO_TCP, TCP_NODELAY, &yes, sizeof yes)) fail("setsockopt");
+    send_at_once(made);
     return made;
 }
 
 // What is in flight is little enough for a socket's buffer, so that a send may wait.
 static void send_all(int socket, const char *bytes, size_t left) {
-    while (left > 0) {
-        ssize_t sent = send(socket, bytes, left, MSG_NOSIGNAL);
-        if (sent < 0 && errno == EINTR) continue;
-        if (sent <= 0) fail("send");
-        bytes += sent;
-        left -= (size_t)sent;
-    }
+    if (!is_sent(socket, bytes, left)) fail("send");
 }
 
 // Sends the next requests of a connection, in one write if they fit.
@@ -101,7 +91,7 @@ static void ask(struct connection *it, size_t count) {
     size_t size = 0;
     for (; count > 0; count--) {
         struct request *request = &requests[it->next++ % request_count];
-        if (size + request->size > INPUT_ROOM) {
+        if (size + request->size > ROOM) {
             send_all(it->socket, output, size);
             size = 0;
         }
@@ -156,7 +146,7 @@ static size_t bulks_in(struct connection *it, const char *bytes, size_t count) {
 
 // Takes what has come, and how many replies ended in it.
 static size_t take(struct connection *it) {
-    ssize_t got = recv(it->socket, input, INPUT_ROOM, 0);
+    ssize_t got = recv(it->socket, input, ROOM, 0);
     if (got < 0 && errno == EINTR) return 0;
     if (got <= 0) fail("receive");
     return is_redis ? bulks_in(it, input, (size_t)got) : lines_in(input, (size_t)got);
@@ -188,10 +178,7 @@ static size_t run(struct connection *all, size_t count, double last) {
 }
 
 int main(int count, char **words) {
-    if (count == 2 && !strcmp(words[1], "--help")) {
-        fputs(USAGE, stdout);
-        return 0;
-    }
+    help(count, words, USAGE);
     is_redis = count == 7 && !strcmp(words[1], "redis");
     long port = count == 7 ? number_of(words[2], 65535) : 0;
     long connections = count == 7 ? number_of(words[3], MOST_CONNECTIONS) : 0;

@@ -5,8 +5,7 @@
 SCRIPTS is the program of crates/test_rows, LIVE that of crates/test_serving. Parts that take one processor run beside one
 another, and then the others one by one. Exit status 0 where each check holds, or is skipped for what the machine lacks.
 """
-from common.options import OPTIONS, PROGRAMS, program_at
-from common.parts import tried
+from common.parts import OPTIONS, PROGRAMS, program_at, tried
 from common.tried import parser_of
 
 BESIDE = ("exit-statuses", "live-copies", "memory-limit", "waiting-rounds", "json-lines", "examples", "random-scripts", "random-words", "rising-keys", "locks",

@@ -1,15 +1,19 @@
-"""The parts of the checks: programs, and modules that pytest tries, with what each may be told."""
+"""The parts of the checks: programs, and modules that pytest tries, with what each may be told and needs. `checks/run` has these words as options,
+and pytest as fixtures."""
 import argparse
 import ast
 import configparser
 import importlib.util
 import os
 import re
+import shutil
 import sys
 from collections.abc import Iterable, Sequence
 from pathlib import Path
+from typing import TYPE_CHECKING, Any
 
-from common.options import OPTIONS, PROGRAMS, program_at
+if TYPE_CHECKING:
+    import pytest
 
 CHECKS = Path(__file__).resolve().parent.parent
 SETTINGS = CHECKS / "pytest.ini"
@@ -20,6 +24,35 @@ NAMED = re.compile(r"checks/run ([a-z][a-z-]*)")
 CHECK = "\ndef check_"
 MAIN = "\ndef main(words: list[str]) -> int:\n"
 PROCESSORS = len(os.sched_getaffinity(0))
+
+
+def program_at(word: str) -> str:
+    """The whole path of a program."""
+    if not os.access(word, os.X_OK) or os.path.isdir(word):
+        raise argparse.ArgumentTypeError(f"there is no program {word}")
+    return os.path.abspath(word)
+
+
+# Programs, which stand before all other words.
+PROGRAMS = {"program": "the built program", "scripts": "the program of crates/test_rows", "live": "the program of crates/test_serving"}
+OPTIONS: dict[str, dict[str, Any]] = {
+    "cases": {"type": int, "metavar": "N", "help": "how many cases are drawn, or made (default: each check's own number)"},
+    "seed": {"type": int, "metavar": "S", "default": 1, "help": "what cases are drawn by (default: %(default)s)"},
+    "seconds": {"type": float, "metavar": "S", "help": "for how long tablets are lost (default: the check's own)"},
+    "soak": {"type": float, "metavar": "S", "default": 60, "help": "for how many seconds sessions are abused (default: %(default)s)"},
+    "big": {"action": "store_true", "help": "also what takes gigabytes"},
+    "log": {"action": "append", "metavar": "LOG", "help": "what a check said of all functions of its crates; may be repeated"},
+    "replay": {"action": "store_true", "help": "each script has a process of PROGRAM"},
+}
+
+
+def needs(*tools: str, modules: tuple[str, ...] = (), root: bool = False, also: tuple[str, ...] = ()) -> "pytest.MarkDecorator":
+    """Skips checks where programs, modules of Debian's python3-.., root or anything else is missing, and says why."""
+    import pytest
+    lacks = [it for it in tools if not shutil.which(it)]
+    lacks += [f"python3-{it.replace('_', '-')}" for it in modules if not importlib.util.find_spec(it)]
+    lacks += [*["root"] * (root and os.geteuid() != 0), *also]
+    return pytest.mark.skipif(bool(lacks), reason=f"the machine lacks {', '.join(lacks)}")
 
 
 def told(text: str) -> str:

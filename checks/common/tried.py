@@ -1,9 +1,14 @@
-"""What is tried of texts in each of which nothing may be wrong, and the words of programs that try something."""
+"""What is tried of texts in each of which nothing may be wrong, the words of programs that try something, and calls by several processes at once,
+as one process of Python uses one processor."""
 import argparse
+import collections
+import concurrent.futures
+import multiprocessing
+import os
 from collections.abc import Callable, Iterable, Iterator
+from typing import Any, TypeVar
 
-from common.at_once import at_once
-from common.options import program_at
+from common.parts import program_at
 
 # What is to be found of a check in a program that goes on with others.
 FAULTS = (AssertionError, OSError, ValueError)
@@ -13,6 +18,14 @@ OTHER_BYTES = {"x": b"x", "a newline": b"\n", "0xff": b"\xff", "nothing": b""}
 FindFault = Callable[[bytes], str | None]
 Case = tuple[str, bytes]
 Cases = tuple[str, FindFault, Iterable[Case]]
+FORK = multiprocessing.get_context("fork")
+# More than there are processors, as each also waits for the program that it starts.
+PROCESSES = 2 * len(os.sched_getaffinity(0))
+Given = TypeVar("Given")
+Found = TypeVar("Found")
+
+# What a process calls: it is the one's that forked it, and so need not have a name.
+CALLED: list[Callable[..., object]] = []
 
 
 def parser_of(told: str | None) -> argparse.ArgumentParser:
@@ -59,3 +72,19 @@ def try_group(cases: Iterable[Cases], group: str) -> None:
     count, fault = first_fault(find_fault, texts)
     none_of([fault] if fault else [])
     print(f"{count} cases")
+
+
+def call(given: Any) -> Any:
+    return CALLED[0](given)
+
+
+def at_once(function: Callable[[Given], Found], each: Iterable[Given]) -> Iterator[Found]:
+    """What a function answers to each, in their order. Where no more are asked for, some were called in vain."""
+    waiting: collections.deque[concurrent.futures.Future[Found]] = collections.deque()
+    with concurrent.futures.ProcessPoolExecutor(PROCESSES, FORK, CALLED.append, (function,)) as pool:
+        for given in each:
+            waiting.append(pool.submit(call, given))
+            if len(waiting) == 2 * PROCESSES:
+                yield waiting.popleft().result()
+        while waiting:
+            yield waiting.popleft().result()

@@ -1,5 +1,5 @@
 """Serves streams that are cut, damaged and long by a built program, and compares what it holds with what a plain, slow reader
-(checks/replies/slow_streams.py) takes; and gives sessions lines that are long, cut and too many.
+(checks/replies/slow_copies.py) takes; and gives sessions lines that are long, cut and too many.
 
   checks/run damaged-streams PROGRAM [WORD ..]
 
@@ -14,8 +14,9 @@ from collections.abc import Iterator
 
 from common.served import Client, Served, message, written
 from common.tried import Case, Cases, damaged, prefixes, try_group
+from replies.slow import Region
+from replies.slow_copies import read_stream
 from replies.slow_lines import Json
-from replies.slow_streams import copy_of, read_stream
 
 SECONDS, PAUSE = 60, 0.002
 LONGEST = 65_536
@@ -34,6 +35,14 @@ def copied(client: Client, images: list[Json]) -> list[str]:
             return [client.reply().decode().rstrip("\n") for _ in range(reply["lines"])]
         time.sleep(PAUSE)
     raise TimeoutError(f"{len(images)} messages were not taken")
+
+
+def copy_of(name: str, images: list[Json]) -> list[str]:
+    """The lines of the copy of a region with one tablet that took these images of a stream."""
+    region = Region([])
+    if images:
+        region.deliver([{"first": 1, "images": images, "stream": name}])
+    return region.copy(0, {})
 
 
 def stream_fault(program: str, folder: str, text: bytes) -> str | None:

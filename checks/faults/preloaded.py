@@ -4,7 +4,7 @@ import os
 import subprocess
 from collections.abc import Callable
 
-from common.at_once import at_once
+from common.tried import at_once
 
 # Each thread leaves a byte in the file STARTED, and `chmod` first waits for MODE_WAITS microseconds.
 SHIM = r"""

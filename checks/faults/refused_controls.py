@@ -7,9 +7,8 @@ import time
 
 from common.served import SECONDS, Json, same
 from faults.preloaded import Refusals
-from serving.controlled import Session, adoption
+from serving.controlled import Publisher, Session, adoption
 from serving.staying import Staying, until
-from serving.publishers import Publisher
 
 # Refusals after which a line is asked again.
 MEMORY = (b'{"error":"memory"}\n', b'{"error":"no-entry"}\n')

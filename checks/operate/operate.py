@@ -27,7 +27,7 @@ from operate import database
 from operate.machines import HOME, HUB, Machine, apart, ask, configure, is_apart, lacking, prepare, run, shell, started, until
 from operate.runbooks import Part, runbook
 from operate.traffic import KEYS, Publisher, Readers, Redis, image, is_served
-from serving.prometheus import Prometheus
+from serving.exporting import Prometheus
 
 PORT, PROXY = 6379, f"{HUB}:7443"
 FIRST = 400

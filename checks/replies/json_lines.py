@@ -18,7 +18,7 @@ from collections.abc import Iterator
 from typing import IO
 
 from common.crates import TOP
-from common.needs import needs
+from common.parts import needs
 from common.tried import none_of
 from replies.stored import stored_scripts
 

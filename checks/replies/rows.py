@@ -4,7 +4,7 @@ import subprocess
 from pathlib import Path
 
 from common.crates import TOP
-from common.needs import needs
+from common.parts import needs
 from common.served import same
 
 ROWS = Path(os.environ.get("ROWS", TOP.parent / "shared" / "rows")) / "check"

@@ -1,7 +1,6 @@
-"""Copies of tablets, read line by line from their text."""
+"""Copies of tablets, and streams, read line by line from their text."""
 from replies.slow_lines import (MAX_LINE_BYTES, Json, Refused, check_image_range, check_image_shape, is_key, is_name, is_number,
-                        is_position, is_whole, json_of)
-
+                        is_position, is_whole, json_of, ranged, shaped)
 
 # Whether a value is a text, and then the value: numbers compare with numbers, and come before all texts.
 Value = tuple[int, int | str]
@@ -123,3 +122,30 @@ def read_copy(text: bytes) -> Json:
         else:
             copy["images"].append(value)
     raise Refused("truncated")
+
+
+def message_of(line: bytes) -> tuple[int, Json]:
+    """The position and the image of a message."""
+    value = json_of(line)
+    shaped(isinstance(value, dict), "whole")
+    shaped(is_whole(value.get("at")), "at")
+    shaped("image" in value, "image")
+    check_image_shape(value["image"])
+    shaped(set(value) <= {"at", "image"}, "other")
+    ranged(is_position(value["at"]), "at")
+    check_image_range(value["image"])
+    return value["at"], value["image"]
+
+
+def read_stream(text: bytes) -> tuple[list[Json], bool]:
+    """The images of a stream up to its first fault, and whether there is a fault."""
+    *lines, rest = text.split(b"\n")
+    images: list[Json] = []
+    for line in lines:
+        try:
+            if len(line) > MAX_LINE_BYTES or message_of(line)[0] != len(images) + 1:
+                return images, True
+        except Refused:
+            return images, True
+        images.append(message_of(line)[1])
+    return images, len(rest) > MAX_LINE_BYTES

@@ -20,8 +20,7 @@ from collections import Counter
 from collections.abc import Callable, Iterator
 from typing import IO
 
-from common.resting import rests
-from common.served import Client, Json, Served, fifo, row_of, same
+from common.served import Client, Json, Served, fifo, rests, row_of, same
 
 SESSIONS = 16
 NAMES = ["east", "north", "south", "west"]

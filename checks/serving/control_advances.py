@@ -4,10 +4,9 @@ import os
 import time
 
 from common.served import same
-from serving.controlled import BOUNDS, TABLETS, Session, adoption, given, region_in
+from serving.controlled import BOUNDS, TABLETS, Publisher, Session, adoption, failed, given, region_in, said_of_faults
 from serving.staying import Staying, messages, until
 from serving.stream_fifos import opens
-from serving.publishers import Publisher, failed, said_of_faults
 
 # How far the region and its peer have the stream, and a second one.
 HAS, PEER_HAS, SECOND = 20, 700, 1_300

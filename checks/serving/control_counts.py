@@ -10,8 +10,7 @@ from pathlib import Path
 from common.crates import TOP
 from common.served import SECONDS, same
 from serving.control_scripts import replayed
-from serving.controlled import BOUNDS, CHUNK, TABLETS, Session, adoption, given, region_in, written
-from serving.publishers import Publisher
+from serving.controlled import BOUNDS, CHUNK, TABLETS, Publisher, Session, adoption, given, region_in, written
 from serving.staying import Staying, messages, until
 
 DELETION = b'{"at":%d,"image":{"deleted":true,"key":"k%03d","master":"w","version":[2,%d]}}\n'

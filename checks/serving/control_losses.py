@@ -15,8 +15,7 @@ import pytest
 
 from common.crates import TOP
 from common.served import SECONDS, Client, same
-from serving.controlled import TABLETS, Session, adoption, region_in, written
-from serving.publishers import Publisher
+from serving.controlled import TABLETS, Publisher, Session, adoption, region_in, written
 from serving.staying import CHUNK, KEYS, Asker, Beside, Staying, Swarm, messages, pages, until
 
 READERS, PART, PAUSE = 16, 200, 0.01

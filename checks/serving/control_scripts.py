@@ -6,9 +6,8 @@ import subprocess
 from collections.abc import Iterator
 
 from common.served import Json, same
-from serving.controlled import BOUNDS, TABLETS, Session, adoption, given
+from serving.controlled import BOUNDS, TABLETS, Session, adoption, given, socket_in
 from serving.staying import PAGE, Staying
-from serving.publishers import socket_in
 
 SCRIPTS, TURNS, KEYS, POSITIONS = 8, 150, 100, 400
 STREAMS = ("east", "west")

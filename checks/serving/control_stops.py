@@ -10,10 +10,9 @@ import time
 from collections.abc import Callable
 
 from common.served import SECONDS, in_time, same, seconds_of
-from serving.controlled import CHUNK, Session, region_in, written
+from serving.controlled import CHUNK, Publisher, Session, region_in, written
 from serving.staying import KEYS, Beside, Staying, messages, until
 from serving.stream_lives import write_slowly
-from serving.publishers import Publisher
 
 CLIENTS, LINES, PAGES, KILLED = 256, 100, 60, 60
 READ = b'{"do":"read","key":"k%03d"}\n'

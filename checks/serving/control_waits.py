@@ -11,8 +11,7 @@ import time
 from collections.abc import Iterator
 
 from common.served import SECONDS, Client, in_time, same, seconds_of
-from serving.controlled import TABLETS, Session, region_in, written
-from serving.publishers import Publisher
+from serving.controlled import TABLETS, Publisher, Session, region_in, written
 from serving.staying import Staying, messages, until
 from serving.stream_limits import BIG, TEXT, goes_on, waiting_in
 

@@ -11,9 +11,9 @@ import threading
 import time
 from pathlib import Path
 
-from common.at_once import at_once
 from common.crates import TOP
 from common.served import Client, Served, message, same, written
+from common.tried import at_once
 from faults.preloaded import Refusals
 from replies.random_values import KEYS, MANY_KEYS, bounds_of, copied, copy_line, streams_of
 from serving.controlled import Session

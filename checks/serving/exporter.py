@@ -7,17 +7,47 @@ It needs Debian's prometheus and python3-prometheus-client, and is skipped witho
 python3-selenium.
 """
 import contextlib
+import json
+import os
+import re
 import signal
 import socket
+import subprocess
+import time
+from collections.abc import Iterator
 
-from common.served import SECONDS, in_time, same, seconds_of
-from serving.controlled import Session, adoption, region_in, written
-from serving.exporting import NEEDS, Exporter
-from serving.prometheus import Prometheus
+from common.parts import needs
+from common.served import SECONDS, Client, in_time, same, seconds_of
+from serving.browser import Browser
+from serving.controlled import Publisher, Session, adoption, region_in, written
+from serving.exporting import FOLDER, NEEDS, RULES, Exporter, Prometheus, answered
 from serving.staying import messages, until
-from serving.publishers import Publisher
 
 pytestmark = NEEDS
+
+ALERT = re.compile(r"- alert: (\w+)")
+# What a dashboard leaves open, and what Grafana puts there.
+OPEN = {"$instance": ".*", "$stream": ".*", "$__rate_interval": "30s"}
+# Queries that have no answer where nothing alerts.
+QUIET = ("ALERTS",)
+PHONE, DESK = 360, 1200
+# A stream's path that would be elements, if it were not escaped.
+NASTY = "<i>&\"'<b>"
+# How many values the first picture has.
+VALUES = 'document.querySelector(".line").getAttribute("d").split("L").length'
+# The least contrast of a text with what is behind it, as the guidelines for accessible pages reckon it, and the smallest text in pixels.
+CONTRAST = """(() => {
+  const parts = color => color.match(/[\\d.]+/g).map(Number);
+  const light = color => {
+    const [r, g, b] = parts(color).map(it => it / 255).map(it => it <= 0.03928 ? it / 12.92 : ((it + 0.055) / 1.055) ** 2.4);
+    return 0.2126 * r + 0.7152 * g + 0.0722 * b;
+  };
+  const behind = it => parts(getComputedStyle(it).backgroundColor)[3] === 0 ? behind(it.parentElement) : getComputedStyle(it).backgroundColor;
+  const texts = [...document.querySelectorAll("body *")].filter(it => [...it.childNodes].some(at => at.nodeType === 3 && at.data.trim()))
+    .filter(it => it.getClientRects().length);
+  const ratios = texts.map(it => [light(getComputedStyle(it).color), light(behind(it))].sort()).map(([a, b]) => (b + 0.05) / (a + 0.05));
+  return [Math.min(...ratios), Math.min(...texts.map(it => parseFloat(getComputedStyle(it).fontSize)))];
+})()"""
 
 
 def check_scrapes(program: str, folder: str) -> None:
@@ -110,3 +140,158 @@ def check_exporter_beside_silent_clients(program: str, folder: str) -> None:
         until("it answers again", lambda: exporter.metrics()["pnuts_up"] == 1.0)
         exporter.process.send_signal(signal.SIGTERM)
         same("it ends by a signal", exporter.process.wait(timeout=SECONDS), -signal.SIGTERM)
+
+
+def check_rules(program: str, folder: str) -> None:
+    """`promtool` takes the file of alerts, and each alert fires when it should, and not before; a rule that is wrong is found."""
+    tests, rules = (FOLDER / "pnuts.tests.yml").read_text(encoding="utf-8"), RULES.read_text(encoding="utf-8")
+    names = ALERT.findall(rules)
+    same("the alerts that are tested", re.findall(r"^ {6}- alertname: (\w+)", tests, re.MULTILINE), names)
+    same("what promtool says", promtool(folder, rules, tests), (0, 1))
+    wrong = {" == 0": " == 5", "> 30": "> 30000", "for: 1m": "for: 9m", "for: 5m": "for: 0m", "> 0.65": "> 0.4", "> 3600": "> 60", " unless": " and", " unless on (instance, stream) pnuts_feed_age": " or on (instance, stream) pnuts_feed_age", "> 2": "> 1"}
+    for right, other in wrong.items():
+        same(f"whether {right} is in the rules", right in rules, True)
+        same(f"what promtool says where {other} is in its place", promtool(folder, rules.replace(right, other), tests)[0], 1)
+
+
+def promtool(folder: str, rules: str, tests: str) -> tuple[int, int]:
+    """The status of promtool over a file of rules and one of tests, and how many files it finds right."""
+    for name, text in (("pnuts.rules.yml", rules), ("pnuts.tests.yml", tests)):
+        with open(os.path.join(folder, name), "w", encoding="utf-8") as file:
+            file.write(text)
+    ran = subprocess.run(["promtool", "test", "rules", f"{folder}/pnuts.tests.yml"], capture_output=True, text=True)
+    return ran.returncode, ran.stdout.count("SUCCESS")
+
+
+def figures(folder: str, **told: float | None) -> None:
+    """Writes the figures of the feed of the stream `east`."""
+    path = os.path.join(folder, "east.json")
+    with open(f"{path}.new", "w", encoding="utf-8") as file:
+        json.dump(told, file)
+    os.rename(f"{path}.new", path)
+
+
+def check_lag(program: str, folder: str) -> None:
+    """Lag is shown in messages and seconds, `/healthz` looks at it where it is told to, and a dead feed is shown as gone."""
+    feeds, copies = os.path.join(folder, "feeds"), os.path.join(folder, "copies")
+    os.mkdir(feeds)
+    words = ("--feeds", feeds, "--copies", copies)
+    with region_in(folder, program) as (_, control, path), Exporter(control, *words) as exporter:
+        written(path, 1, 250)
+        until("the region has all", lambda: exporter.metrics()['pnuts_stream_position{stream="east"}'] == 250)
+        same("the age of no copies", exporter.metrics()["pnuts_copies_age_seconds"], float("inf"))
+        same("whether a lag is shown", [it for it in exporter.metrics() if "lag" in it], [])
+        same("its health", exporter.health(), (200, "well\n"))
+        same("its health by a word", exporter.health("?lag=5"), (503, "stream east has no feed that tells how far its broker is\n"))
+        now = time.time()
+        open(copies, "w").close()
+        figures(feeds, at=now, heard=now, level=now - 100, newest=300, taken=250)
+        found = exporter.metrics()
+        same("the lag in messages", found['pnuts_stream_lag_messages{stream="east"}'], 50)
+        same("whether the lag in seconds is some 100", 99 < found['pnuts_stream_lag_seconds{stream="east"}'] < 160, True)
+        same("whether copies are young", 0 <= found["pnuts_copies_age_seconds"] < 60, True)
+        for query, status in (("", 200), ("?lag=1000", 200), ("?lag=50", 503), ("?lag=x", 400), ("?lag=-1", 400), ("?lag=nan", 400), ("?lags=5", 400), ("?", 200)):
+            same(f"the health by {query}", exporter.health(query)[0], status)
+        figures(feeds, at=now - 60, heard=now - 60, level=now - 60, newest=250, taken=250)
+        same("the health of a dead feed", "has a feed that last told something" in exporter.health("?lag=1000")[1], True)
+        until("its page shows it", lambda: "gone" in answered(f"http://{exporter.address}/")[1])
+    with region_in(folder, program) as (_, control, path), Exporter(control, *words, "--lag", "1000") as exporter:
+        same("its health, by its words", exporter.health()[0], 503)
+
+
+def check_health_of_a_stream_that_failed(program: str, folder: str) -> None:
+    """A region whose stream has failed is asked on, as the message fails in all others too: `/healthz` says it, and is 200."""
+    with region_in(folder, program) as (_, control, path), Exporter(control) as exporter:
+        written(path, 1, 250)
+        with Publisher(path) as publisher:
+            publisher.begin()
+            publisher.send(b"x\n")
+            publisher.last_lines()
+        until("its health says it", lambda: exporter.health() == (200, "stream east has failed: not-json\n"))
+
+
+def queries() -> Iterator[str]:
+    """What the dashboard asks Prometheus for, in all of its panels and variables."""
+    dashboard = json.loads((FOLDER / "pnuts.dashboard.json").read_text(encoding="utf-8"))
+    asked = [target["expr"] for panel in dashboard["panels"] for target in panel["targets"]]
+    asked += [it["expr"] for it in dashboard["annotations"]["list"]]
+    for it in dashboard["templating"]["list"]:
+        if it["type"] == "query":
+            metric, label = re.fullmatch(r"label_values\((\w+), (\w+)\)", it["query"]["query"]).groups()  # type: ignore[union-attr]
+            asked.append(f"count by ({label}) ({metric})")
+    for text in asked:
+        for name, value in OPEN.items():
+            text = text.replace(name, value)
+        yield text
+
+
+def check_dashboard(program: str, folder: str) -> None:
+    """Each query of the dashboard has an answer of a Prometheus that scrapes a region."""
+    feeds = os.path.join(folder, "feeds")
+    os.mkdir(feeds)
+    with region_in(folder, program) as (region, control, path), Exporter(control, "--feeds", feeds, "--copies", path) as exporter:
+        written(path, 1, 250)
+        figures(feeds, at=time.time(), heard=time.time(), level=time.time(), newest=250, taken=250)
+        with Client(region.port) as client, Prometheus(folder, [exporter.address]) as seen:
+            for key in ("k001", "k002"):
+                client.read(key)
+            asked = [*queries()]
+            same("whether there are enough queries", len(asked) > 20, True)
+            seen.wait_for("count_over_time(pnuts_rounds_total[1m]) > bool 2", [1.0])
+            for text in asked:
+                same(f"whether {text} is understood", isinstance(seen.query(text), list), True)
+                if not text.startswith(QUIET):
+                    until(f"{text} has an answer", lambda: seen.query(text) != [])
+
+
+def text_of(page: Browser) -> str:
+    """The text that is seen."""
+    return str(page.value("document.body.innerText"))
+
+
+def wait_for(page: Browser, *texts: str) -> None:
+    try:
+        until(f"the page shows {texts}", lambda: all(it in text_of(page) for it in texts))
+    except TimeoutError as fault:
+        raise TimeoutError(f"{fault}: {text_of(page)!r}") from fault
+
+
+@needs("chromium", "chromedriver", modules=("selenium",))
+def check_page(program: str, folder: str) -> None:
+    """The page shows what a region does, escaped, as it goes on; remembers it; asks nothing of others; and is readable on a phone and in the dark."""
+    with region_in(folder, program, name=NASTY) as (region, control, path), Exporter(control) as exporter, Browser(folder) as page:
+        written(path, 1, 250)
+        page.look(DESK, "light")
+        page.open(f"http://{exporter.address}/")
+        wait_for(page, "well", "east", "250", NASTY)
+        same("elements of a stream's path", page.value('document.querySelectorAll("td i, td b").length'), 0)
+        page.value("window.kept = 1")
+        with Session(control) as session, Client(region.port) as client:
+            client.read("k001")
+            written(path, 251, 1_000)
+            session.told(do="lose", tablet=1)
+            wait_for(page, "1,250", "tablet 1 is recovering", "1 open, 1 accepted")
+        same("whether it is the page that was opened", page.value("window.kept"), 1)
+        until("its pictures have five values", lambda: int(str(page.value(VALUES))) >= 5)
+        page.open(f"http://{exporter.address}/")
+        same("whether a reload remembers them", int(str(page.value(VALUES))) >= 5, True)
+        look_at(page)
+        same("addresses elsewhere", [it for it in page.asked() if not re.match(rf"http://{exporter.address}/|data:", it)], [])
+        same("what the browser complains of", page.faults(), [])
+        region.process.kill()
+        wait_for(page, "wrong", "Below is what it said")
+        exporter.process.kill()
+        wait_for(page, "The exporter does not answer")
+
+
+def look_at(page: Browser) -> None:
+    """Nothing is wider than the screen, and all text is large and clear enough; light and dark differ."""
+    grounds = set()
+    for width in (PHONE, DESK):
+        for scheme in ("light", "dark"):
+            page.look(width, scheme)
+            same(f"the width at {width}", page.value(f"document.documentElement.scrollWidth <= {width}"), True)
+            contrast, size = page.value(CONTRAST)
+            same(f"the contrast and the size of texts at {width}, {scheme}: {contrast:.1f}, {size:.1f}", (contrast >= 4.5, size >= 12), (True, True))
+            grounds.add(page.value("getComputedStyle(document.body).backgroundColor"))
+    same("the colours behind it", len(grounds), 2)

@@ -5,8 +5,7 @@ import socket
 import threading
 import time
 
-from common.resting import rests, sockets
-from common.served import SECONDS, same
+from common.served import SECONDS, rests, same, sockets
 from serving.controlled import given, region_in, written
 from serving.fronts import NEEDS, Frames, Front, Stream, certified, front_in
 from serving.staying import messages, until

@@ -13,9 +13,8 @@ import tempfile
 from collections.abc import Iterator
 
 from common.crates import TOP
-from common.needs import needs
-from common.resting import memory
-from common.served import SECONDS, Json, free_port, same
+from common.parts import needs
+from common.served import SECONDS, Json, free_port, memory, same
 from serving.controlled import region_in
 from serving.staying import Staying, until
 

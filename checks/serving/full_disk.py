@@ -9,7 +9,7 @@ import subprocess
 import sys
 
 from common.crates import TOP
-from common.needs import needs
+from common.parts import needs
 from common.served import SECONDS, same
 from serving.controlled import given, region_in
 from serving.staying import messages
@@ -27,7 +27,7 @@ mount -t tmpfs -o size=$1 none "$0" && printf %s "$3" > "$0/$2" && shift 3 || ex
 # Keeps positions of a stream until the disk is full, and then reads what is kept.
 KEEPING = """
 import sys
-from feed.pairs import BadPairs, Pair, Pairs
+from feed.positions import BadPairs, Pair, Pairs
 path, first, position = sys.argv[1], Pair(1, 0, ""), 1
 pairs = Pairs(None, "east", first)
 try:

@@ -18,9 +18,8 @@ import textwrap
 import time
 
 from common.crates import TOP
-from common.needs import needs
-from common.resting import sockets
-from common.served import SECONDS, free_port, row_of, same
+from common.parts import needs
+from common.served import SECONDS, free_port, row_of, same, sockets
 from serving.browser import Browser
 from serving.controlled import Session, region_in, written
 from serving.fronts import NEEDS, Front, Stream, built, certified, curl, front_in, header

@@ -12,11 +12,10 @@ from common.served import SECONDS, TIMES, same, seconds_of, written
 from common.tried import FAULTS as FAULTS_OF_A_CHECK
 from replies.limit_table import LINE, image, message, messages, text_of
 from replies.slow_lines import Json
-from serving.controlled import Session
+from serving.controlled import Session, failed, said_of_faults
 from serving.line_talks import ANSWERED, PIECES, Talk, ends_of, shut, talk_all
 from serving.line_ways import AROUND, parts_of
 from serving.staying import Staying, until
-from serving.publishers import failed, said_of_faults
 
 STREAMS, FAULTS = 16, 3
 # How long a region is given to see that a FIFO's publisher has gone, whose fault was told before.

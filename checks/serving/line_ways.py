@@ -9,8 +9,7 @@ import subprocess
 from collections.abc import Callable, Iterator, Sequence
 from typing import NamedTuple, TypeVar
 
-from common.resting import rests
-from common.served import SECONDS, Served, piped, same, seconds_of
+from common.served import SECONDS, Served, piped, rests, same, seconds_of
 from common.tried import FAULTS as FAULTS_OF_A_CHECK
 from replies.limit_table import COMMANDS, CONTROL, LINE, READ_ONLY, SCRIPT, SESSION, Limit, text_of
 from serving.line_talks import PIECES, Talk, ends_of, shut, talk_all

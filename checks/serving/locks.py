@@ -15,7 +15,7 @@ from collections.abc import Iterator
 
 import pytest
 
-from common.needs import needs
+from common.parts import needs
 from common.served import SECONDS, free_port, piped, same
 
 pytestmark = needs("setpriv", root=True)

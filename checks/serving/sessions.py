@@ -11,8 +11,7 @@ import threading
 import time
 from collections.abc import Iterator
 
-from common.resting import rests
-from common.served import Client, Json, Served, fifo, free_port, image, message, row_of, same, written
+from common.served import Client, Json, Served, fifo, free_port, image, message, rests, row_of, same, written
 from serving.staying import until
 
 MANY = 10_000

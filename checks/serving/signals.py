@@ -11,11 +11,10 @@ import subprocess
 import time
 
 from common.served import SECONDS, Client, Served, message, piped, row_of, same, written
-from serving.controlled import Session, region_in
+from serving.controlled import Publisher, Session, made, region_in, said_of_faults, socket_in
 from serving.staying import CHUNK, KEYS, PAGE, Staying, key_of, messages, until
 from serving.staying_clients import deaf_client
 from serving.stream_fifos import opens, wait_for
-from serving.publishers import Publisher, made, said_of_faults, socket_in
 
 # How often a program is stopped, and for how long.
 TIMES, STOPPED = 4, 0.03

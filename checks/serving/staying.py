@@ -15,8 +15,7 @@ from collections import defaultdict
 from collections.abc import Callable, Iterator, Sequence
 from typing import BinaryIO
 
-from common.resting import Rest, descriptors, memory, rest_of, rests, same_rest, sockets
-from common.served import SECONDS, STARTING, Client, Json, free_port, piped, same
+from common.served import SECONDS, STARTING, Client, Json, Rest, descriptors, free_port, memory, piped, rest_of, rests, same, same_rest, sockets
 
 FORK = multiprocessing.get_context("fork")
 KEYS = 100

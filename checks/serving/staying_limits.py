@@ -10,11 +10,10 @@ import threading
 import time
 from collections.abc import Callable, Iterator
 
-from common.at_once import at_once
 from common.served import SECONDS, Client, free_port, piped, same, written
+from common.tried import at_once
 from faults.preloaded import environment, failing_library
-from serving.controlled import Session
-from serving.publishers import Publisher
+from serving.controlled import Publisher, Session
 from serving.staying import CHUNK, PAGE, Staying, messages, until
 
 NO_ROW = b'{"row":null}\n'

@@ -8,8 +8,8 @@ import threading
 import time
 
 from common.served import Client, Json, image, message, row_of, same, written
+from serving.controlled import Publisher, failed, made, said_of_faults, socket_in, written_by
 from serving.staying import KEYS, Staying, key_of, messages, until
-from serving.publishers import Publisher, failed, made, said_of_faults, socket_in, written_by
 
 LONG, MUCH = 70_000, 5_000_000
 # The faults of a message, and the reason that the publisher gets for each.

@@ -8,10 +8,9 @@ import socket
 import time
 from collections.abc import Iterator
 
-from common.resting import rests
-from common.served import SECONDS, Client, row_of, same, seconds_of
+from common.served import SECONDS, Client, rests, row_of, same, seconds_of
+from serving.controlled import Publisher, failed, made, said_of_faults, socket_in
 from serving.staying import Staying, key_of, messages, until
-from serving.publishers import Publisher, failed, made, said_of_faults, socket_in
 
 ENDED = b"pnuts: stream east ended\n"
 LIVES, RESTARTS, QUIET_LIVES = 50, 50, 300

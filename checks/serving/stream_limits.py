@@ -10,8 +10,8 @@ import time
 from collections.abc import Iterator
 
 from common.served import SECONDS, Client, row_of, same
+from serving.controlled import Publisher, made, said_of_faults, socket_in
 from serving.staying import Staying, key_of, messages, until
-from serving.publishers import Publisher, made, said_of_faults, socket_in
 
 # Of how many streams how many publishers are at fault: as many as are told in a minute. Each but the first of a stream gives two lines:
 # more than the mailbox and a pipe of so many bytes hold.

@@ -6,9 +6,9 @@ import stat
 import time
 
 from common.served import Client, in_time, row_of, same, seconds_of, written
+from serving.controlled import Publisher, made, said_of_faults, socket_in, written_by
 from serving.staying import Staying, key_of, messages, until
 from serving.stream_fifos import opens, wait_for
-from serving.publishers import Publisher, made, said_of_faults, socket_in, written_by
 
 # Within how many seconds a region listens again, and how often its path is removed.
 AGAIN, TIMES = 1.0, 5

@@ -4,10 +4,9 @@ import random
 import time
 
 from common.served import Json, same
-from serving.controlled import Session, region_in
+from serving.controlled import Publisher, Session, failed, region_in, said_of_faults, wait_for_after
 from serving.staying import Staying, messages, until
 from serving.stream_faults import line_of
-from serving.publishers import Publisher, failed, said_of_faults, wait_for_after
 
 LIMIT = 256
 MANY, STORM = 2_000, 100_000

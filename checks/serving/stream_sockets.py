@@ -10,8 +10,8 @@ import termios
 import time
 
 from common.served import SECONDS, Client, fifo, free_port, message, row_of, same, written
+from serving.controlled import Publisher, said_of_faults, socket_in, wait_for_after, written_by
 from serving.staying import Staying, key_of, messages, until
-from serving.publishers import Publisher, said_of_faults, socket_in, wait_for_after, written_by
 
 UMASK = 0o022
 WARM, MANY, LEAK_KB = 500, 10_000, 1_024

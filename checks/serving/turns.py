@@ -28,8 +28,7 @@ import time
 from collections.abc import Callable, Iterator
 from typing import NamedTuple
 
-from common.resting import AT_REST, processor_seconds, share
-from common.served import SECONDS, Client
+from common.served import AT_REST, SECONDS, Client, processor_seconds, share
 from common.tried import program_parser
 from serving.staying import CHUNK, Beside, Staying, raise_descriptors, until
 

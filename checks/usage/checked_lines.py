@@ -16,7 +16,7 @@ from common.crates import TOP
 from common.served import SECONDS, piped, same
 
 sys.path.insert(0, str(TOP / "feeds"))
-from feed.images import fault_of  # noqa: E402
+from feed.bodies import fault_of  # noqa: E402
 
 LINES = 20_000
 LONG = 100_000_000

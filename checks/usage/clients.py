@@ -13,7 +13,7 @@ import subprocess
 import pytest
 
 from common.crates import TOP
-from common.needs import needs
+from common.parts import needs
 from common.tried import none_of
 
 # What the test of each client needs.

@@ -9,8 +9,8 @@ from collections.abc import Iterator
 
 from common.crates import TOP
 from common.served import SECONDS, same
+from serving.controlled import Publisher, socket_in
 from serving.staying import Staying
-from serving.publishers import Publisher, socket_in
 
 INDENT = "    "
 FIRST = '{"at":1,"image":{"fields":{"v":"x"},"key":"k","master":"w","version":[1,0]}}\n'

@@ -9,7 +9,7 @@ from collections.abc import Iterator
 from typing import Any
 
 from common.crates import TOP
-from common.needs import needs
+from common.parts import needs
 from common.tried import none_of
 
 pytestmark = needs(modules=("kubernetes", "yaml"))

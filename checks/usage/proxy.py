@@ -16,7 +16,7 @@ from contextlib import ExitStack
 from pathlib import Path
 
 from common.crates import TOP
-from common.needs import needs
+from common.parts import needs
 from common.served import Client, free_port, message, same
 
 pytestmark = needs("haproxy", "openssl", modules=("prometheus_client",))

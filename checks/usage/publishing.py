@@ -12,7 +12,7 @@ import tempfile
 from pathlib import Path
 
 from common.crates import TOP
-from common.needs import needs
+from common.parts import needs
 from common.tried import none_of
 
 BIN = Path("/usr/lib/postgresql/15/bin")

@@ -11,7 +11,7 @@ import re
 import subprocess
 
 from common.crates import TOP
-from common.needs import needs
+from common.parts import needs
 from common.served import same
 
 pytestmark = needs("unshare", "ip", "bash")

@@ -10,7 +10,7 @@ from collections.abc import Iterator
 from pathlib import Path
 
 from common.crates import TOP
-from common.needs import needs
+from common.parts import needs
 from common.tried import none_of
 
 pytestmark = needs("mypy")

@@ -214,7 +214,7 @@ func TestVectors(t *testing.T) {
 }
 
 func TestVectorsOfFaults(t *testing.T) {
-	faults := vectorsOf(t, "faults")
+	faults := vectorsOf(t, "lookups")
 	for _, told := range append(faults.Refused, faults.Broken...) {
 		listener := listen(t)
 		go replay(t, listener, []exchange{told}, 1<<20)

@@ -12,8 +12,7 @@ from dataclasses import dataclass, field
 
 import pika
 from machines import BOUND, FRONT, PROXY_PORT, RANGES, Machine, context
-from pnuts_client import Client, PnutsError, RecordBehind, Recovering, Regions
-from pnuts_client.addresses import Tcp
+from pnuts_client import Client, PnutsError, RecordBehind, Recovering, Regions, Tcp
 
 KEYS = 500
 # How often a reader asks other regions for what one does not have yet, before it waits.

@@ -10,8 +10,7 @@ from collections.abc import Callable, Sequence
 
 from cache import Cache
 from machines import PROXY_PORT, RANGES, SHOWN, Machine, context
-from pnuts_client import Client, Control, PnutsError, Recovering, Version
-from pnuts_client.addresses import Tcp
+from pnuts_client import Client, Control, PnutsError, Recovering, Tcp, Version
 
 from running import until
 

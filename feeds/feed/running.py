@@ -9,13 +9,10 @@ from contextlib import closing
 from functools import partial
 from typing import Any, Protocol
 
-from .bodies import BadBody, line_of
+from .bodies import BadBody, BadInstead, Instead, line_of, why_refused
 from .figures import Figures
-from .ids import Given, Ids
-from .images import why_refused
-from .instead import BadInstead, Instead
 from .output import Output, RegionGone, output_of
-from .pairs import BadPairs
+from .positions import BadPairs, Given, Ids
 from .sockets import OtherStream, Refused, RegionAway, Unusable
 
 

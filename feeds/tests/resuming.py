@@ -12,8 +12,7 @@ from collections.abc import Iterator, Sequence
 from contextlib import AbstractContextManager, ExitStack, contextmanager
 from pathlib import Path
 
-from .region import ProgramRegion, Region
-from .support import FEEDS, image, wait_until
+from .support import FEEDS, ProgramRegion, Region, image, wait_until
 
 # How many images a feed is killed and begun anew among.
 IMAGES = int(os.environ.get("FEEDS_IMAGES", "200000"))

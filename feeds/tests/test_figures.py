@@ -16,8 +16,7 @@ from feed.figures import MOST, Figures
 from feed.running import run
 from feed.sockets import RegionSocket
 
-from .region import Region
-from .support import wait_until
+from .support import Region, wait_until
 from .test_sockets import FakeBroker
 
 

@@ -9,8 +9,7 @@ import unittest
 from pathlib import Path
 
 from . import resuming
-from .kafka_server import FIND_COORDINATOR, GROUP_REFUSED, Server, server_of
-from .relays import Relay, SaslRelay
+from .kafka_server import FIND_COORDINATOR, GROUP_REFUSED, Relay, SaslRelay, Server, server_of
 from .support import feed, image, wait_until, wanted
 
 

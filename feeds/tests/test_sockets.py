@@ -15,8 +15,7 @@ from pathlib import Path
 from feed.running import Lost, Unreachable, run
 from feed.sockets import OtherStream, Refused, RegionAway, RegionSocket, Unusable
 
-from .region import Region
-from .support import image, wait_until
+from .support import Region, image, wait_until
 
 
 class Sockets(unittest.TestCase):

@@ -3,15 +3,12 @@
 //! It answers the commands `deliver`, `read`, `get`, `scan` and `marks` as docs/lines.md says, and serves sessions.
 
 mod commands;
-mod lines;
 mod members;
-mod queries;
 mod records;
-mod refusals;
 mod region;
 mod server;
 
-use crate::refusals::Refusal;
+use crate::members::Refusal;
 use crate::region::Region;
 use serde_json::Value;
 use std::io;
@@ -55,9 +52,11 @@ impl Plan {
             Plan::Replay => {
                 let mut region = Region::default();
                 let answer = |line: &[u8]| commands::answer(&mut region, line);
-                lines::answer_lines(io::stdin().lock(), io::stdout().lock(), answer)
+                commands::answer_lines(io::stdin().lock(), io::stdout().lock(), answer)
             }
-            Plan::Json => lines::answer_lines(io::stdin().lock(), io::stdout().lock(), reading_of),
+            Plan::Json => {
+                commands::answer_lines(io::stdin().lock(), io::stdout().lock(), reading_of)
+            }
             Plan::Serve {
                 port,
                 sessions,

@@ -1,11 +1,48 @@
-//! Members of JSON objects, taken out one after another, and the limits that many of them have.
+//! Members of JSON objects, taken out one after another, the limits that many of them have, and why a line is refused.
 
 use crate::records::Version;
-use crate::refusals::Refusal;
-use serde_json::{Map, Value};
+use serde_json::{json, Map, Value};
 
 /// The greatest position, generation and number.
 pub const MAX_NUMBER: u64 = 1_000_000_000_000_000;
+
+/// The first fault of a line.
+pub enum Refusal {
+    TooLong,
+    NotJson,
+    BadShape(&'static str),
+    OutOfRange(&'static str),
+    ReadOnly,
+    Gap {
+        got: u64,
+        stream: String,
+        wanted: u64,
+    },
+    TooManyStreams,
+    Behind(Option<Version>),
+}
+
+impl Refusal {
+    /// The reply to the refused line.
+    pub fn reply(&self) -> Value {
+        match self {
+            Refusal::TooLong => json!({"error": "too-long"}),
+            Refusal::NotJson => json!({"error": "not-json"}),
+            Refusal::BadShape(member) => json!({"error": "bad-shape", "member": member}),
+            Refusal::OutOfRange(member) => json!({"error": "out-of-range", "member": member}),
+            Refusal::ReadOnly => json!({"error": "read-only"}),
+            Refusal::Gap {
+                got,
+                stream,
+                wanted,
+            } => json!({"error": "gap", "got": got, "stream": stream, "wanted": wanted}),
+            Refusal::TooManyStreams => json!({"error": "too-many-streams"}),
+            Refusal::Behind(has) => {
+                json!({"error": "behind", "has": has.map(|it| [it.generation, it.number])})
+            }
+        }
+    }
+}
 
 /// The members of an object that were not taken yet.
 pub struct Members(Map<String, Value>);

@@ -1,9 +1,8 @@
 //! Records by their keys: the greatest version of each, with every content that came with it; their images, read from JSON values, and
 //! the batches that bring them.
 
-use crate::members::{ensure, is_field, is_key, is_name, is_version, text_of, version_of};
+use crate::members::{ensure, is_field, is_key, is_name, is_version, text_of, version_of, Refusal};
 use crate::members::{Members, MAX_NUMBER};
-use crate::refusals::Refusal;
 use serde_json::Value;
 use std::collections::btree_map::Entry;
 use std::collections::BTreeMap;

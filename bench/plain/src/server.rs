@@ -1,10 +1,8 @@
 //! A server of sessions over TCP, one thread each, while streams are read.
 
-use crate::commands::lookup_of;
-use crate::lines::{answer_lines, next_line};
-use crate::members::Members;
+use crate::commands::{answer_lines, lookup_of, next_line};
+use crate::members::{Members, Refusal};
 use crate::records::{join_all, Batch, Image, Records};
-use crate::refusals::Refusal;
 use crate::region::{look_up, reduce, Marks};
 use std::fs::File;
 use std::io::{self, BufReader};

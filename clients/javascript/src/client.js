@@ -4,12 +4,10 @@ import { randomUUID } from "node:crypto";
 import { rename, rm, writeFile } from "node:fs/promises";
 import { basename, dirname, join } from "node:path";
 import { setTimeout as sleep } from "node:timers/promises";
-import { addressOf } from "./connection.js";
-import { Attempts, Order } from "./failover.js";
+import { Pool, addressOf } from "./connection.js";
+import { Attempts, Order, Seen, withLater } from "./failover.js";
 import { stringify } from "./json.js";
-import { Pool } from "./pool.js";
 import { answerOf, page, row, rowsOf, text } from "./replies.js";
-import { Seen, withLater } from "./seen.js";
 
 /** How many keys a line may have, and how many bytes they may have in it, each with a comma. */
 const MAX_KEYS = 100;

@@ -1,6 +1,6 @@
 // Several regions that are read as one.
 
-import { compareKeys, within } from "./queries.js";
+import { compareKeys, within } from "./replies.js";
 
 /** Each region has the keys of a range: the first those below the first bound, each other those from its bound on. */
 export class Regions {

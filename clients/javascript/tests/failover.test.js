@@ -5,12 +5,9 @@ import { readFileSync } from "node:fs";
 import { join } from "node:path";
 import { test } from "node:test";
 import { ConnectionFailed, ProtocolError, RecordBehind, Refused, TimedOut } from "../src/index.js";
-import { Attempts, Order, backoff } from "../src/failover.js";
-import { compareKeys } from "../src/queries.js";
-import { answerOf } from "../src/replies.js";
-import { Seen } from "../src/seen.js";
-import { NONE, fake, folderOf, open, vectors } from "./support.js";
-import { tabled } from "./tables.js";
+import { Attempts, Order, Seen, backoff } from "../src/failover.js";
+import { answerOf, compareKeys } from "../src/replies.js";
+import { NONE, fake, folderOf, open, tabled, vectors } from "./support.js";
 
 const { backoffs, orders, attempts, seen } = JSON.parse(vectors("failover"));
 const { calls } = JSON.parse(vectors("regions"));

@@ -1,12 +1,13 @@
-// Several regions of the same streams: a tablet is lost, another region is behind, and proxies cut connections.
+// Several regions: of the same streams, where one loses a tablet, one is behind, all lag and proxies cut connections; and with a range of
+// keys each.
 
 import assert from "node:assert/strict";
+import net from "node:net";
 import { join } from "node:path";
 import { test } from "node:test";
 import { setTimeout as sleep } from "node:timers/promises";
-import { Control, RecordBehind, Regions } from "../src/index.js";
-import { proxy } from "./proxy.js";
-import { folderOf, image, ofTheProgram, open, region, waitFor } from "./support.js";
+import { Control, RecordBehind, Regions, compareVersions } from "../src/index.js";
+import { folderOf, image, keysOf, ofTheProgram, open, proxy, region, waitFor } from "./support.js";
 
 /** How many bytes of replies a connection gets at most. */
 const MOST = 60_000;
@@ -112,4 +113,134 @@ test("two ranges of keys, and two regions for each, of which one is gone", ofThe
   const tally = new Tally();
   await tally.run(both, (key) => both.of(key));
   assert.deepEqual([tally.wrong, tally.reads], [[], 3 * KEYS.length]);
+});
+
+/** How many changes there are a second, of which keys in turn, and how many in all. */
+const RATE = 1000;
+const CHANGED = Array.from({ length: 40 }, (_, at) => `k${String(at).padStart(2, "0")}`);
+const CHANGES = 4 * RATE;
+
+/** The message at a position. */
+function message(at) {
+  const version = [1, Math.floor(at / CHANGED.length)];
+  return `${JSON.stringify({ at, image: { fields: { v: "x" }, key: CHANGED[at % CHANGED.length], master: "w", version } })}\n`;
+}
+
+/** Gives a region the messages of a stream, each at its moment. */
+async function feed(t, path, begin) {
+  const stream = net.connect(path);
+  t.after(() => stream.destroy());
+  stream.on("error", () => undefined).resume();
+  for (let at = 1; at <= CHANGES; at += 10) {
+    await sleep(begin + (at / RATE) * 1000 - performance.now());
+    stream.write(Array.from({ length: 10 }, (_, more) => message(at + more)).join(""));
+  }
+  stream.end();
+}
+
+/** The latest version that any call has shown of each key, and what was shown that is older. */
+class Shown {
+  #versions = new Map();
+  calls = 0;
+  wrong = [];
+
+  /** Makes a call, and compares what it shows of keys with what was shown before it began. */
+  async call(what, keys, asked) {
+    const before = new Map(this.#versions);
+    const found = new Map((await asked()).filter((record) => record !== null).map((record) => [record.key, record.version]));
+    this.calls += 1;
+    for (const key of keys) {
+      const [least, version] = [before.get(key), found.get(key)];
+      if (least !== undefined && (version === undefined || compareVersions(version, least) < 0)) {
+        this.wrong.push([what, key, version, least]);
+      }
+      if (version !== undefined && compareVersions(version, this.#versions.get(key) ?? [0, 0]) > 0) {
+        this.#versions.set(key, version);
+      }
+    }
+  }
+}
+
+async function scanned(client) {
+  const records = [];
+  for await (const record of client.scan({ limit: 15 })) {
+    records.push(record);
+  }
+  return records;
+}
+
+test("no reader of regions that lag is shown an older version", ofTheProgram, async (t) => {
+  const folder = folderOf(t);
+  const begin = performance.now() + 500;
+  const proxies = [];
+  const feeds = [];
+  for (const [at, lag] of [0, 150, 300].entries()) {
+    const path = join(folder, String(at));
+    const words = ["--stay", "--sessions=2", `--control=${path}-control`, '--bounds=["k20"]', `east=listen:${path}`];
+    proxies.push(await proxy(t, (await region(t, {}, words)).address));
+    proxies[at].most = 40_000;
+    feeds.push(feed(t, path, begin + lag));
+  }
+  const client = open(t, proxies.map(({ address }) => address), { connections: 2, timeout: 60_000, retries: 10 });
+  const shown = new Shown();
+  let isOver = false;
+  const readOn = async () => {
+    while (!isOver) {
+      const key = CHANGED[Math.floor(Math.random() * CHANGED.length)];
+      await shown.call("read", [key], async () => [await client.read(key)]);
+      await shown.call("get", CHANGED, () => client.get(CHANGED));
+      await shown.call("scan", CHANGED, () => scanned(client));
+    }
+  };
+  const reading = Promise.all([readOn(), readOn(), readOn()]);
+  await Promise.all(feeds);
+  isOver = true;
+  await reading;
+  assert.deepEqual(shown.wrong.slice(0, 5), []);
+  const cuts = proxies.reduce((count, { cuts }) => count + cuts, 0);
+  t.diagnostic(`${shown.calls} calls, ${cuts} connections cut`);
+  assert(shown.calls > 10 && cuts > 0);
+});
+
+const images = (v, keys) => ({ east: keys.map((key) => JSON.stringify(image(key, { v }))) });
+
+test("the region of a key", () => {
+  const clients = [{}, {}, {}];
+  const regions = new Regions(["g", "\uff5e"], clients);
+  for (const [key, wanted] of [["", 0], ["fz", 0], ["g", 1], ["lz", 1], ["\uff5e", 2], ["\u{1f600}", 2]]) {
+    assert.equal(regions.of(key), clients[wanted], key);
+  }
+});
+
+test("the parts of a query", () => {
+  const regions = new Regions(["g", "m"], [1, 2, 3]);
+  for (const [query, wanted] of [
+    [{}, ["1 -g", "2 g-m", "3 m-"]],
+    [{ from: "h", to: "k" }, ["2 h-k"]],
+    [{ after: "g", to: "m" }, ["2 g-m"]],
+    [{ from: "m", to: "g" }, []],
+    [{ from: "a", to: "g" }, ["1 a-g"]],
+    [{ from: null, to: null }, ["1 -g", "2 g-m", "3 m-"]],
+  ]) {
+    const found = [...regions.parts(query)].map(([client, { from, to }]) => `${client} ${from ?? ""}-${to ?? ""}`);
+    assert.deepEqual(found, wanted);
+  }
+});
+
+test("tables that are refused", () => {
+  for (const [bounds, clients] of [[["m"], [1]], [["m", "m"], [1, 2, 3]], [["\u{1f600}", "\uff5e"], [1, 2, 3]]]) {
+    assert.throws(() => new Regions(bounds, clients), RangeError);
+  }
+});
+
+test("two regions", ofTheProgram, async (t) => {
+  const low = open(t, (await region(t, images("low", ["a", "c", "l"]))).address);
+  const high = open(t, (await region(t, images("high", ["m", "n", "\u00fc"]))).address);
+  await waitFor(low, "l");
+  await waitFor(high, "\u00fc");
+  const both = new Regions(["m"], [low, high]);
+  assert.deepEqual(await keysOf(both.scan({ limit: 2 })), ["a", "c", "l", "m", "n", "\u00fc"]);
+  assert.deepEqual(await keysOf(both.scan({ from: "c", to: "n", limit: 1 })), ["c", "l", "m"]);
+  assert.deepEqual(await keysOf(await both.get(["n", "z", "a", "n"])), ["n", undefined, "a", "n"]);
+  assert.deepEqual((await both.of("m").read("m")).fields, { v: "high" });
 });

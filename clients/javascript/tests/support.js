@@ -1,4 +1,4 @@
-// What the tests need: a running region, a server that does as it is told, and the vectors.
+// What the tests need: a running region, a proxy before it, servers that do as they are told, and the vectors.
 
 import { spawn } from "node:child_process";
 import { once } from "node:events";
@@ -6,6 +6,7 @@ import { mkdtempSync, readFileSync, rmSync, writeFileSync } from "node:fs";
 import net from "node:net";
 import { tmpdir } from "node:os";
 import { join } from "node:path";
+import { createInterface } from "node:readline";
 import { setTimeout as sleep } from "node:timers/promises";
 import { Client } from "../src/index.js";
 
@@ -120,4 +121,88 @@ export async function keysOf(records) {
     keys.push(record?.key);
   }
   return keys;
+}
+
+/** Where it is, and what shuts it. It cuts each connection after at most `most` bytes of replies, and all of them while it is shut. */
+export async function proxy(t, address) {
+  const { port } = new URL(address);
+  const sockets = new Set();
+  const made = { most: Infinity, cuts: 0, isShut: false, shut: () => ((made.isShut = true), sockets.forEach((socket) => socket.destroy())) };
+  const server = net.createServer((socket) => {
+    sockets.add(socket);
+    socket.on("error", () => undefined);
+    if (made.isShut) {
+      socket.destroy();
+      return;
+    }
+    let left = 1 + Math.random() * made.most;
+    const behind = net.connect(port, "127.0.0.1");
+    behind.on("error", () => socket.destroy());
+    behind.on("close", () => socket.destroy());
+    socket.on("close", () => behind.destroy());
+    socket.pipe(behind);
+    behind.on("data", (data) => {
+      left -= data.length;
+      socket.write(left > 0 ? data : data.subarray(0, Math.max(data.length + Math.floor(left), 0)));
+      if (left <= 0) {
+        made.cuts += 1;
+        socket.end();
+        behind.destroy();
+      }
+    });
+  });
+  server.listen(0, "127.0.0.1");
+  await once(server, "listening");
+  t.after(() => {
+    made.shut();
+    server.close();
+  });
+  return Object.assign(made, { address: `tcp://127.0.0.1:${server.address().port}` });
+}
+
+/** A line without the members that say what holds without them. */
+export function plain(line) {
+  if (typeof line !== "object" || line === null || Array.isArray(line)) {
+    return line;
+  }
+  const isSaid = ([name, member]) => member != null && member.length !== 0 && !(name === "limit" && member === 100);
+  return Object.fromEntries(Object.entries(line).filter(isSaid).map(([name, member]) => [name, plain(member)]).sort());
+}
+
+/** A region whose table changes, and the lines that it was asked beside that. */
+export async function tabled(t) {
+  const sockets = new Set();
+  const region = { table: null, unknown: [] };
+  const replyTo = (line) => {
+    const asked = JSON.stringify(plain(JSON.parse(line)));
+    const found = region.table.find((entry) => JSON.stringify(plain(entry.line)) === asked);
+    if (found === undefined) {
+      region.unknown.push(line);
+      return '{"error":"unknown"}\n';
+    }
+    return [JSON.stringify(found.reply), ...(found.text ?? [])].map((text) => `${text}\n`).join("");
+  };
+  const server = net.createServer((socket) => {
+    sockets.add(socket);
+    socket.on("error", () => undefined);
+    if (region.table === null) {
+      socket.destroy();
+      return;
+    }
+    createInterface({ input: socket }).on("line", (line) => socket.destroyed || socket.write(replyTo(line)));
+  });
+  region.become = (table) => {
+    region.table = table;
+    if (table === null) {
+      sockets.forEach((socket) => socket.destroy());
+    }
+  };
+  server.listen(0, "127.0.0.1");
+  await once(server, "listening");
+  region.address = `tcp://127.0.0.1:${server.address().port}`;
+  t.after(() => {
+    region.become(null);
+    server.close();
+  });
+  return region;
 }

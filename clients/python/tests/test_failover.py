@@ -28,8 +28,7 @@ from pnuts_client import (
     requests,
 )
 from pnuts_client.errors import refusal_of
-from pnuts_client.failover import Attempts, Order, Try, backoff
-from pnuts_client.seen import Seen
+from pnuts_client.failover import Attempts, Order, Seen, Try, backoff
 
 from .support import Region, fake, replies, vectors
 from .test_vectors import as_json

@@ -1,4 +1,4 @@
-"""Several regions of the same streams: a tablet is lost, another region is behind, and proxies cut connections."""
+"""Several regions: of the same streams, where one loses a tablet, one is behind and proxies cut connections; and with a range of keys each."""
 
 from __future__ import annotations
 
@@ -11,10 +11,10 @@ from collections.abc import Callable
 from contextlib import ExitStack
 from pathlib import Path
 
-from pnuts_client import AsyncClient, AsyncRegions, Client, Control, PnutsError, Record, RecordBehind, Regions, requests
+from pnuts_client import AsyncClient, AsyncRegions, Bounds, Client, Control, PnutsError, Query, Record, RecordBehind, Regions, requests
 
 from .support import Proxy, image, region
-from .test_client import wait_for
+from .test_client import wait_for, wait_for_async
 
 COUNT, BOUNDS = 200, ["k100"]
 KEYS = [f"k{at:03}" for at in range(COUNT)]
@@ -22,6 +22,9 @@ OLD = [image(key, (1, 0)) for key in KEYS]
 NEW = [image(key, (1, 1)) for key in KEYS]
 # How many bytes of replies a connection gets at most.
 MOST = 60_000
+LOW = {"east": [image(key, v="low") for key in ("a", "c", "l")]}
+HIGH = {"east": [image(key, v="high") for key in ("m", "n", "\u00fc")]}
+CUT = ["a", "c", "l", "m", "n", "\u00fc"]
 
 
 class Reader:
@@ -193,3 +196,64 @@ class RangesOfSeveralRegions(unittest.TestCase):
         reader = Reader()
         asyncio.run(self._read(reader))
         self.assertEqual((reader.wrong, reader.reads), ([], 3 * COUNT))
+
+
+class Tables(unittest.TestCase):
+    """What a table of bounds makes of keys and queries."""
+
+    def test_the_region_of_a_key(self) -> None:
+        table = Bounds(["g", "m"], ["one", "two", "three"])
+        wanted = {"": "one", "fz": "one", "g": "two", "lz": "two", "m": "three", "\U0001f600": "three"}
+        self.assertEqual({key: table.region_of(key) for key in wanted}, wanted)
+
+    def test_the_parts_of_a_query(self) -> None:
+        table = Bounds(["g", "m"], ["one", "two", "three"])
+        for query, wanted in (
+            (Query(), [("one", None, "g"), ("two", "g", "m"), ("three", "m", None)]),
+            (Query("h", "k"), [("two", "h", "k")]),
+            (Query(after="g", end="m"), [("two", "g", "m")]),
+            (Query("m", "g"), []),
+            (Query("a", "g"), [("one", "a", "g")]),
+        ):
+            with self.subTest(query):
+                self.assertEqual([(name, part.start, part.end) for name, part in table.parts(query)], wanted)
+
+    def test_tables_that_are_refused(self) -> None:
+        for bounds, regions in ((["m"], ["one"]), (["m", "m"], ["one", "two", "three"])):
+            with self.subTest(bounds), self.assertRaises(ValueError):
+                Bounds(bounds, regions)
+
+
+class TwoRegions(unittest.TestCase):
+    """Two programs with a half of the keys each."""
+
+    def test_reads_gets_and_scans(self) -> None:
+        with ExitStack() as stack:
+            ports = [stack.enter_context(region(streams)) for streams in (LOW, HIGH)]
+            clients = [stack.enter_context(Client(f"tcp://127.0.0.1:{port}")) for port in ports]
+            wait_for(clients[0], "l")
+            wait_for(clients[1], "\u00fc")
+            both = Regions(["m"], clients)
+            self.assertEqual([record.key for record in both.scan(page=2)], CUT)
+            self.assertEqual([record.key for record in both.scan("c", "n", page=1)], ["c", "l", "m"])
+            found = both.get(["n", "z", "a", "n"])
+            self.assertEqual([record and record.key for record in found], ["n", None, "a", "n"])
+            record = both.read("m")
+            self.assertEqual(record and record.fields, {"v": "high"})
+
+
+class TwoRegionsOfOneLoop(unittest.IsolatedAsyncioTestCase):
+    """The same keys, by asyncio."""
+
+    async def test_reads_gets_and_scans(self) -> None:
+        with ExitStack() as stack:
+            ports = [stack.enter_context(region(streams)) for streams in (LOW, HIGH)]
+            clients = [AsyncClient(f"tcp://127.0.0.1:{port}") for port in ports]
+            await wait_for_async(clients[0], "l")
+            await wait_for_async(clients[1], "\u00fc")
+            both = AsyncRegions(["m"], clients)
+            self.assertEqual([record.key async for record in both.scan(page=2)], CUT)
+            found = await both.get(["n", "z", "a", "n"])
+            self.assertEqual([record and record.key for record in found], ["n", None, "a", "n"])
+            for client in clients:
+                await client.close()

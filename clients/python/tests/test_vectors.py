@@ -11,8 +11,7 @@ from typing import Any
 
 from pnuts_client import Notices, ProtocolError, Query, Record, Refused, Stats, Version, control_requests, requests
 from pnuts_client.pipeline import Pipeline
-from pnuts_client.queries import query_of
-from pnuts_client.requests import Request
+from pnuts_client.requests import Request, query_of
 
 from .support import region, vectors
 
@@ -88,12 +87,12 @@ class Vectors(unittest.TestCase):
             self.assertEqual(as_json(request.answer(reply)), wanted["rows"])
 
     def test_faults(self) -> None:
-        for case in vectors("faults")["refused"]:
+        for case in vectors("lookups")["refused"]:
             with self.subTest(case["reply"]):
                 with self.assertRaises(Refused) as refused:
                     self._answered(case)
                 self.assertEqual(refused.exception.reply, json.loads(case["reply"]))
-        for case in vectors("faults")["broken"]:
+        for case in vectors("lookups")["broken"]:
             with self.subTest(case["reply"]), self.assertRaises(ProtocolError):
                 self._answered(case)
 

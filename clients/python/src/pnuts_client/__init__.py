@@ -1,8 +1,8 @@
 """Reads records from regions of pnuts."""
 
-from .addresses import Address, Tcp, Unix, address_of
 from .aio import AsyncClient
 from .client import Client
+from .connection import Address, Tcp, Unix, address_of
 from .control import AsyncControl, Control
 from .control_requests import Connections, LineCounts, Lines, Notice, Notices, Stats, StreamStats, Tablet, TabletStats, Unread
 from .errors import (
@@ -18,10 +18,9 @@ from .errors import (
     Refused,
     TimedOut,
 )
-from .queries import Condition, Query, eq, gt, has, lt, prefix
 from .records import Content, Record, Version
 from .regions import AsyncRegions, Bounds, Regions
-from .requests import Page, Request
+from .requests import Condition, Page, Query, Request, eq, gt, has, lt, prefix
 
 __all__ = [
     "Address",

@@ -12,21 +12,19 @@ from types import TracebackType
 from typing import Any, TypeVar
 
 from . import requests
-from .addresses import Address, Addresses, Unix, addresses_of
+from .connection import Address, Unix
 from .errors import ConnectionFailed, PnutsError, ProtocolError, TimedOut
-from .failover import Attempts, Order
+from .failover import Attempts, Regional, with_later
 from .files import write_whole
 from .pipeline import Pipeline
-from .queries import Condition, Query
 from .records import Record, Version
-from .requests import Request
-from .seen import REMEMBERED, Seen, with_later
+from .requests import Condition, Query, Request
 
 Answer = TypeVar("Answer")
 PIECE = 256 * 1024
 
 
-class AsyncClient:
+class AsyncClient(Regional[list["_Connection"]]):
     """A region, by an address or its text, or several of the same streams, for the tasks of one event loop.
 
     At most `connections` are open to each, opened when they are needed, each a session of the region; a line goes to
@@ -35,23 +33,11 @@ class AsyncClient:
     pause. Of several regions the first that can answer does, as for `Client`.
     """
 
-    def __init__(
-        self,
-        address: Addresses,
-        *,
-        connections: int = 1,
-        timeout: float | None = 10.0,
-        retries: int = 3,
-        remember: int = REMEMBERED,
-    ) -> None:
-        where = addresses_of(address)
-        self._pools = [[_Connection(each) for _ in range(connections)] for each in where]
-        self._order = Order([str(each) for each in where])
-        self._seen = Seen(remember) if len(where) > 1 else None
-        self._timeout = timeout
-        self._retries = retries
-        # How often it was closed.
-        self._closed = 0
+    # How often it was closed.
+    _closed = 0
+
+    def _pool_of(self, address: Address, connections: int) -> list[_Connection]:
+        return [_Connection(address) for _ in range(connections)]
 
     async def read(self, key: str, at_least: tuple[int, int] | None = None) -> Record | None:
         """As `Client.read`."""

@@ -12,21 +12,17 @@ from types import TracebackType
 from typing import TypeVar
 
 from . import requests
-from .addresses import Address, Addresses, addresses_of
-from .connection import DEFAULT_WINDOW, Connection
+from .connection import DEFAULT_WINDOW, Address, Connection, seconds_left
 from .errors import PnutsError, TimedOut
-from .failover import Attempts, Order, Try
+from .failover import Attempts, Regional, Try, with_later
 from .files import write_whole
-from .queries import Condition, Query
 from .records import Record, Version
-from .requests import Request
-from .seen import REMEMBERED, Seen, with_later
-from .sockets import seconds_left
+from .requests import Condition, Query, Request
 
 Answer = TypeVar("Answer")
 
 
-class Client:
+class Client(Regional["_Pool"]):
     """A region, by an address or its text, or several of the same streams. Its calls may be made from any thread.
 
     At most `connections` are open to each, opened when they are needed, each a session of the region. A call waits for
@@ -36,20 +32,8 @@ class Client:
     `remember` keys.
     """
 
-    def __init__(
-        self,
-        address: Addresses,
-        *,
-        connections: int = 1,
-        timeout: float | None = 10.0,
-        retries: int = 3,
-        remember: int = REMEMBERED,
-    ) -> None:
-        self._pools = [_Pool(each, connections) for each in addresses_of(address)]
-        self._order = Order([str(pool.address) for pool in self._pools])
-        self._seen = Seen(remember) if len(self._pools) > 1 else None
-        self._timeout = timeout
-        self._retries = retries
+    def _pool_of(self, address: Address, connections: int) -> _Pool:
+        return _Pool(address, connections)
 
     def read(self, key: str, at_least: tuple[int, int] | None = None) -> Record | None:
         """The record of a key, a deleted one too; None where there is none.

@@ -10,12 +10,12 @@ from contextlib import asynccontextmanager
 from pathlib import Path
 
 from . import control_requests as asked
-from .addresses import Address
 from .aio import AsyncClient
 from .client import Client
+from .connection import Address
 from .control_requests import LAST_NUMBER, Marks, Notices, Stats, Tablet
 from .errors import ConnectionFailed
-from .pauses import pause
+from .failover import pause
 
 LONGEST_WAIT = 60
 """The most seconds that a line waits for changes."""

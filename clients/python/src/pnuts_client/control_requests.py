@@ -48,7 +48,10 @@ class Notices:
 
 @dataclass(frozen=True, slots=True)
 class Connections:
-    """Connections of clients: how many were accepted and refused, are open, and were ended since they were idle."""
+    """Connections of clients.
+
+    `accepted` and `refused` are how many were so far, `open` how many are, and `idle` how many were ended since they were idle.
+    """
 
     accepted: int
     idle: int
@@ -65,17 +68,18 @@ class LineCounts:
 
 
 @dataclass(frozen=True, slots=True)
-class Lines:
+class Lines(LineCounts):
     """Lines of clients: how many were answered, and how many of these refused; and so for each kind of line, where the region says it."""
 
-    answered: int
-    refused: int
     kinds: dict[str, LineCounts]
 
 
 @dataclass(frozen=True, slots=True)
 class TabletStats:
-    """What a tablet holds: records, and how many of them are deletions."""
+    """What a tablet holds.
+
+    `records` is how many it has, and `deleted` how many of them are deletions.
+    """
 
     records: int
     deleted: int
@@ -107,7 +111,10 @@ class StreamStats:
 
 @dataclass(frozen=True, slots=True)
 class Unread:
-    """Replies that clients have not taken: the bytes of the records that these keep, their limit, and how many clients were ended for it."""
+    """Replies that clients have not taken.
+
+    `bytes` are those of the records that these keep, `limit` is how many these may be, and `ended` how many clients were ended for it.
+    """
 
     bytes: int
     ended: int
@@ -116,7 +123,10 @@ class Unread:
 
 @dataclass(frozen=True, slots=True)
 class TimeBucket:
-    """How many took at most `most` microseconds, but more than those of the bucket before."""
+    """How many took how long.
+
+    `count` of them took at most `most` microseconds, but more than those of the bucket before.
+    """
 
     count: int
     most: int
@@ -124,7 +134,11 @@ class TimeBucket:
 
 @dataclass(frozen=True, slots=True)
 class TimeCounts:
-    """How many there were, how many microseconds they took together, and how many took how long, up to the greatest `most`."""
+    """How long lines or rounds took.
+
+    `count` is how many there were, `total` how many microseconds they took together, and `buckets` how many took how long, up to the
+    greatest `most`.
+    """
 
     buckets: list[TimeBucket]
     count: int
@@ -133,7 +147,10 @@ class TimeCounts:
 
 @dataclass(frozen=True, slots=True)
 class Times:
-    """How long lines took, from when they were found at hand until they had their replies, and how long rounds."""
+    """How long lines and rounds took.
+
+    Lines are timed from when they were found at hand until they had their replies.
+    """
 
     lines: TimeCounts
     rounds: TimeCounts

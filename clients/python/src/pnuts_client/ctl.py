@@ -15,16 +15,15 @@ from dataclasses import asdict
 from pathlib import Path
 from typing import Any
 
-from .addresses import Address, Unix, address_of
 from .client import Client
+from .connection import Address, Unix, address_of
 from .control import Control
 from .control_requests import LAST_NUMBER, Notice, Tablet
 from .errors import ConnectionFailed, PnutsError, TimedOut
+from .failover import pause
 from .figures import Beside
-from .layouts import MOST_TABLETS, as_json, copies_in, sizes_of
-from .pauses import pause
 from .recovery import recover
-from .saving import copies, save
+from .saving import MOST_TABLETS, as_json, copies, copies_in, save, sizes_of
 from .status import shown_bytes, shown_status, shown_tablets
 
 DEFAULT_CONTROL = "/run/pnuts/control"

@@ -1,17 +1,34 @@
-"""Which of several regions is asked next, and how long one that failed is left alone: no socket, and no clock of its own."""
+"""Several regions of the same streams: which is asked next, how long one that failed is left alone, and the versions that were seen, so that
+no region shows an older one. There is no socket, and no clock of its own.
+"""
 
 from __future__ import annotations
 
 import threading
-from collections.abc import Container, Sequence
+from abc import ABC, abstractmethod
+from collections.abc import Container, Iterable, Sequence
 from dataclasses import dataclass
-from typing import NamedTuple
+from typing import Any, Generic, NamedTuple, TypeVar
 
+from . import requests
+from .connection import Address, Addresses, addresses_of
 from .errors import ConnectionFailed, CopyBehind, NoEntry, OutOfMemory, PnutsError, RecordBehind, Recovering, TimedOut
-from .pauses import pause
+from .records import Record, Version
+from .requests import Page, Query, Request, meets
 
 OF_ANOTHER = (ConnectionFailed, TimedOut, Recovering, RecordBehind, CopyBehind, NoEntry, OutOfMemory)
 """After what a line that reads is asked of another region."""
+REMEMBERED = 10_000
+"""Of how many keys a client of several regions keeps the version that it saw, if nothing else is said."""
+
+Wanted = tuple[str, Version]
+"""A key, and the version that was seen of it."""
+Pool = TypeVar("Pool")
+
+
+def pause(tries: int) -> float:
+    """Seconds before the next of several tries: none at first, then 0.1 and twice as many each time, at most 1."""
+    return min(0.05 * 2.0**tries, 1.0) if tries else 0.0
 
 
 def backoff(failures: int) -> float:
@@ -130,3 +147,90 @@ class Attempts:
         """The fault, with what other regions said."""
         fault.others = [(self._order.names[at], said) for at, said in sorted(self._said.items()) if at != done.region]
         return fault
+
+
+class Seen:
+    """The versions of the keys that were seen last, at most `size` of them. Any thread may use it."""
+
+    def __init__(self, size: int) -> None:
+        self._size = size
+        # Each key with its version, and whether that was a deletion; the key that was seen last comes last.
+        self._versions: dict[str, tuple[Version, bool]] = {}
+        self._lock = threading.Lock()
+
+    def version(self, key: str) -> Version | None:
+        """The version that was seen of a key."""
+        with self._lock:
+            known = self._versions.get(key)
+        return known and known[0]
+
+    def guarded(self, request: Request[Any]) -> Request[Any]:
+        """The request, where it reads a record at least in the version that was seen."""
+        known = None if request.key is None else self.version(request.key)
+        if request.key is None or known is None or (request.at_least is not None and request.at_least >= known):
+            return request
+        return requests.read(request.key, known)
+
+    def take(self, key: str, record: Record | None) -> Version | None:
+        """Notes the record that a region has of a key. Where a later version was seen, it gives that."""
+        with self._lock:
+            known = self._versions.pop(key, None)
+            shown = None if record is None else (record.version, record.state == "deleted")
+            is_older = known is not None and (shown is None or shown[0] < known[0])
+            kept = known if is_older else shown
+            if kept is not None:
+                self._versions[key] = kept
+            if len(self._versions) > self._size:
+                del self._versions[next(iter(self._versions))]
+            return known[0] if known is not None and is_older else None
+
+    def older(self, keys: Sequence[str], records: Sequence[Record | None]) -> list[Wanted]:
+        """The keys of which a later version was seen than these records have."""
+        found = [(key, self.take(key, record)) for key, record in zip(keys, records)]
+        return [(key, version) for key, version in found if version is not None]
+
+    def older_of(self, query: Query, page: Page) -> list[Wanted]:
+        """The keys of a page of which a later version was seen, and, where there are no conditions, those that it lacks."""
+        keys = [record.key for record in page.records]
+        found = self.older(keys, page.records)
+        if query.where:
+            return found
+        shown, last = set(keys), None if page.next is None else page.next.after
+        with self._lock:
+            lacking = [(key, it[0]) for key, it in self._versions.items() if not it[1] and key not in shown]
+        return found + [it for it in lacking if query.covers(it[0]) and (last is None or it[0] <= last)]
+
+
+def with_later(query: Query, records: Sequence[Record], later: Iterable[Record | None]) -> list[Record]:
+    """The records of a page with later ones in their places, as far as these are what the query asks for."""
+    shown = {record.key: record for record in records}
+    for record in later:
+        if record is not None:
+            shown.pop(record.key, None)
+            if meets(record, query.where):
+                shown[record.key] = record
+    return [shown[key] for key in sorted(shown)]
+
+
+class Regional(ABC, Generic[Pool]):
+    """What a client keeps of the region that it asks, or of several: a pool for each, their order, and the versions that were seen."""
+
+    def __init__(
+        self,
+        address: Addresses,
+        *,
+        connections: int = 1,
+        timeout: float | None = 10.0,
+        retries: int = 3,
+        remember: int = REMEMBERED,
+    ) -> None:
+        where = addresses_of(address)
+        self._pools = [self._pool_of(each, connections) for each in where]
+        self._order = Order([str(each) for each in where])
+        self._seen = Seen(remember) if len(where) > 1 else None
+        self._timeout = timeout
+        self._retries = retries
+
+    @abstractmethod
+    def _pool_of(self, address: Address, connections: int) -> Pool:
+        """The connections to a region, at most so many."""

@@ -8,7 +8,7 @@ from . import requests
 from .client import Client
 from .control import Control
 from .errors import CopyBehind, Recovering, Refused
-from .pauses import pause
+from .failover import pause
 from .saving import Unfit, head_of
 
 

@@ -9,8 +9,8 @@ from typing import Generic, TypeVar
 
 from .aio import AsyncClient
 from .client import Client
-from .queries import Condition, Query
 from .records import Record
+from .requests import Condition, Query
 
 Region = TypeVar("Region")
 Item = TypeVar("Item")

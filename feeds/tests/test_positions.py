@@ -7,7 +7,7 @@ import tempfile
 import unittest
 from pathlib import Path
 
-from feed.pairs import EVERY, MOST, BadPairs, Pair, Pairs
+from feed.positions import EVERY, MOST, BadPairs, Pair, Pairs
 
 FIRST = Pair(1, 0, "")
 

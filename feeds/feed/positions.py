@@ -1,4 +1,4 @@
-"""A file of which offset of a broker is which position of a stream."""
+"""Which message of a broker has which position: in memory the ids and lines of what was given last, and in a file positions with their offsets."""
 
 from __future__ import annotations
 
@@ -7,11 +7,79 @@ import hashlib
 import json
 import os
 from bisect import bisect_left, bisect_right
+from collections import deque
+from collections.abc import Sequence
 from dataclasses import dataclass
 from pathlib import Path
 
+MOST_IDS, MOST_BYTES = 200_000, 4_000_000
 EVERY = 1_000
 MOST = 2_000
+
+
+class Ids:
+    """The broker's ids of what was given last, until the region has taken it."""
+
+    def __init__(self) -> None:
+        self._parts: deque[tuple[int, Sequence[object]]] = deque()
+        self._count = 0
+
+    def begin(self) -> None:
+        """Forgets all of them."""
+        self._parts.clear()
+        self._count = 0
+
+    def add(self, first: int, ids: Sequence[object]) -> None:
+        """The ids of messages that are given next, from this position on."""
+        self._parts.append((first, ids))
+        self._count += len(ids)
+        while self._count > MOST_IDS and len(self._parts) > 1:
+            self._drop()
+
+    def forget(self, taken: int) -> None:
+        """The region has all up to this position."""
+        while self._parts and self._parts[0][0] + len(self._parts[0][1]) <= taken + 1:
+            self._drop()
+
+    def at(self, position: int | None) -> object | None:
+        """The id of the message that has this position, where it is still known."""
+        if position is not None:
+            for first, ids in self._parts:
+                if first <= position < first + len(ids):
+                    return ids[position - first]
+        return None
+
+    def _drop(self) -> None:
+        self._count -= len(self._parts.popleft()[1])
+
+
+class Given:
+    """The lines that were given last, of which the region may refuse one."""
+
+    def __init__(self) -> None:
+        self._parts: deque[tuple[int, Sequence[bytes], int]] = deque()
+        self._size = 0
+
+    def begin(self) -> None:
+        """Forgets all of them."""
+        self._parts.clear()
+        self._size = 0
+
+    def add(self, first: int, lines: Sequence[bytes]) -> None:
+        """Lines that are given next, from this position on."""
+        size = sum(map(len, lines))
+        self._parts.append((first, lines, size))
+        self._size += size
+        while self._size > MOST_BYTES and len(self._parts) > 1:
+            self._size -= self._parts.popleft()[2]
+
+    def at(self, position: int | None) -> bytes | None:
+        """The line of this position, where it is still known."""
+        if position is not None:
+            for first, lines, _ in self._parts:
+                if first <= position < first + len(lines):
+                    return lines[position - first]
+        return None
 
 
 class BadPairs(Exception):
