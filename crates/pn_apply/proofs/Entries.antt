@@ -7,9 +7,9 @@ use Rattle.std.specs.List.{AllByRecursion, swap}
 use Rattle.std.specs.List.Sorted.{IsPermutation, IsSortedByKey, SwapsInRange, apply_swaps}
 use Rattle.std.specs.FinMap.{find, put}
 use Rattle.std.specs.FinMap.Entries.{by_order}
-use Rattle.pn_join.specs.Tables.{AreUpTo}
-use Rattle.pn_join.specs.Leaves.{IsPutOf}
-use Rattle.pn_join.proofs.Rising.{each_of, each_weaker, each_by_both}
+use Rattle.pn_join.specs.Indices.{AreUpTo}
+use Rattle.pn_join.specs.PutInLeaves.{IsPutOf}
+use Rattle.pn_join.proofs.ListFacts.{each_of, each_weaker, each_by_both}
 use Rattle.pn_join.proofs.Puts.{joins_new}
 use Rattle.pn_record.specs.declared.records.Image.{Image}
 use Rattle.pn_record.specs.Cells.{Entries, SameImages, cells}

@@ -1,2 +1,1 @@
 pub mod PlannedArguments
-pub mod SocketPermissions

@@ -1,28 +1,34 @@
--- What `clap` takes has a command, and what a command says is a plan or a fault.
-use Rattle.std.proofs.Common.{◌≡◌, ◌⊎◌, inl, inr, ℕ, Bool, true, false, cond, List, [], ◌∷◌, Option, Some, None, Result, Ok, Err, codes, refl, subst, is_some, arith}
-use Rattle.std.specs.Prelude.{◌≤◌, IfOk, IsSome, max, min}
+-- What the command line's parser takes has a command, what a command says is a plan or a fault, and permissions are the number that is read.
+use Rattle.clap.specs.declared.error.kind.ErrorKind.TheVariants as error
+use Rattle.pn_arguments.specs.Plans as faults
+use Rattle.pn_arguments.specs.declared.plans.Plan.TheVariants as plan
+use Rattle.pn_arguments.specs.declared.faults.OptionFault.TheVariants as option
+use Rattle.pn_arguments.specs.declared.faults.PlanFault.TheVariants as fault
+use Rattle.std.proofs.Common.{◌≡◌, ◌⊎◌, inl, inr, ℕ, Bool, true, false, cond, List, [], ◌∷◌, Option, Some, None, Result, Ok, Err, codes, refl, subst, is_some, arith, ◌<◌, ◌^◌, ap, sym, ◌∙◌}
+use Rattle.std.specs.Prelude.{◌≤◌, IfOk, IsSome, max, min, nat_le, nat_lt}
 use Rattle.std.specs.Option.{ok_or}
 use Rattle.std.specs.declared.net.ip_addr.IpAddr.{IpAddr}
 use Rattle.clap.specs.Kinds.{Kinds, or_else, IsAmong}
 use Rattle.clap.specs.Faults.{check_fault, defaults_fault, entered_fault, fault_of, settle_fault, walk_fault, is_simple_and_free}
 use Rattle.clap.specs.Simple.{App, HasMatchesOf, argument_words, built, names_of, subcommand_of, subcommand_rows_of}
 use Rattle.clap.specs.declared.error.kind.ErrorKind.{ErrorKind}
-use Rattle.clap.specs.declared.error.kind.ErrorKind.TheVariants as error
 use Rattle.clap.specs.declared.parser.matches.ArgMatches.{ArgMatches}
 use Rattle.clap.specs.Walk.{Row, Text, Walk, finished, nothing_held, settled, walk, walk_from}
 use Rattle.pn_json.proofs.LookUps.{bind_ok}
 use Rattle.pn_arguments.specs.Options.{program}
 use Rattle.pn_arguments.specs.Plans.{Answers, HasSessions, IsTold, Plans, Says, Tells, FaultValue, told_fault}
 use Rattle.pn_arguments.specs.Commands.{address_in, control_in, number_at, plan_in, replay_in, script_in, serve_in, service_in, settings_in, text_at, PlanValue, ServiceValue, check, help, plan_value, replay, serve, version}
-use Rattle.pn_arguments.specs.Plans as faults
-use Rattle.pn_arguments.specs.OptionTexts.{permissions_in, streams_in}
+use Rattle.pn_arguments.specs.OptionTexts.{permissions_in, streams_in, are_permissions}
 use Rattle.pn_serve.specs.declared.server.session_threads.TheConstants.{MAX_SESSIONS}
 use Rattle.pn_arguments.specs.declared.plans.Plan.{Plan}
-use Rattle.pn_arguments.specs.declared.plans.Plan.TheVariants as plan
 use Rattle.pn_arguments.specs.declared.faults.OptionFault.{OptionFault}
-use Rattle.pn_arguments.specs.declared.faults.OptionFault.TheVariants as option
 use Rattle.pn_arguments.specs.declared.faults.PlanFault.{PlanFault}
-use Rattle.pn_arguments.specs.declared.faults.PlanFault.TheVariants as fault
+use Rattle.std.proofs.lemmas.Bool.{ltb-true, leb-true, lt-ltb}
+use Rattle.std.specs.Char.{digit_value}
+use Rattle.std.specs.List.{list_all}
+use Rattle.std.specs.Str.Parse.{AllDigits, IsNumeral, digits_value, without_leading_plus}
+use Rattle.clap.proofs.WalkLemmas.{both}
+use Rattle.pn_arguments.specs.declared.bounds.TheConstants.{MAX_PERMISSIONS, OCTAL}
 
 -- ---- a command is there
 
@@ -180,3 +186,40 @@ has_sessions words (Ok (plan.Serve settings service streams)) is = plans _ is.wr
 has_sessions words (Ok (plan.Help text)) is = tt
 has_sessions words (Ok (plan.Version text)) is = tt
 has_sessions words (Err found) is = tt
+
+digits_from : (ds : List ℕ) → list_all (λ c. nat_lt (digit_value c) OCTAL) ds ≡ true → AllDigits OCTAL ds
+digits_from [] e = tt
+digits_from (d ∷ ds) e =
+    let parts = both _ _ e in
+    (ltb-true _ _ parts.0, digits_from ds parts.1)
+
+digits_back : (ds : List ℕ) → AllDigits OCTAL ds → list_all (λ c. nat_lt (digit_value c) OCTAL) ds ≡ true
+digits_back [] h = refl
+digits_back (d ∷ ds) h = rw (lt-ltb (digit_value d) OCTAL h.0) (digits_back ds h.1)
+
+-- the number of a numeral, unless it is too great
+abbrev pub not_too_great : ℕ → Result ℕ OptionFault
+not_too_great n = cond (nat_le n MAX_PERMISSIONS) (Ok n) (Err option.SocketMode)
+
+of_numeral : (text : List ℕ) → IsNumeral OCTAL (without_leading_plus text)
+    → permissions_in text ≡ not_too_great (digits_value OCTAL (without_leading_plus text))
+of_numeral text h = rw (lt-ltb _ _ h.0, digits_back _ h.1) refl
+
+pub of_number : (text : List ℕ) (n : ℕ)
+    → (IsNumeral OCTAL (without_leading_plus text) × (digits_value OCTAL (without_leading_plus text) < 2 ^ 32))
+    × (n ≡ digits_value OCTAL (without_leading_plus text))
+    → not_too_great n ≡ permissions_in text
+of_number text n parsed = ap not_too_great parsed.1 ∙ sym (of_numeral text parsed.0.0)
+
+pub of_none : (text : List ℕ) → ¬ (IsNumeral OCTAL (without_leading_plus text) × (digits_value OCTAL (without_leading_plus text) < 2 ^ 32))
+    → Err option.SocketMode ≡ permissions_in text
+of_none text none = unless (are_permissions (without_leading_plus text)) refl
+  where
+    unless : (b : Bool) → are_permissions (without_leading_plus text) ≡ b
+        → ◌≡◌ {A = Result ℕ OptionFault} (Err option.SocketMode) (cond b (Ok (digits_value OCTAL (without_leading_plus text))) (Err option.SocketMode))
+    unless true is =
+        let parts = both _ _ is in
+        let octal = both _ _ parts.0 in
+        let most = leb-true _ _ parts.1 in
+        absurd (none ((ltb-true _ _ octal.0, digits_from _ octal.1), omega (arith, most)))
+    unless false is = refl

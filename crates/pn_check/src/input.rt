@@ -40,25 +40,12 @@ pub fn check<S: Source, W: Sink>(
     ensures endless { IsErrOf result CheckFault.Endless → IfSome (S.left input.old) HasNoEnd }
     ensures out { OnOk result (W.is_flushed output.new) }
 {
-    match LineBuffers::new(alloc) {
-        Ok(mut buffers) => check_lines(&mut buffers, input, output),
-        Err(_) => Err(CheckFault::Memory),
-    }
-}
-
-fn check_lines<S: Source, W: Sink>(
-    buffers: &mut LineBuffers,
-    input: &mut S,
-    output: &mut W,
-) -> Result<bool, CheckFault>
-    ensures told { IfOk result (λ is_taken. IfSome (S.left input.old) (λ text. HasChecked text is_taken (W.contents output.old) (W.contents output.new))) }
-    ensures read { IsErrOf result CheckFault.Read → S.may_fail }
-    ensures write { IsErrOf result CheckFault.Write → W.may_fail }
-    ensures endless { IsErrOf result CheckFault.Endless → IfSome (S.left input.old) HasNoEnd }
-    ensures out { OnOk result (W.is_flushed output.new) }
-{
+    let mut buffers = match LineBuffers::new(alloc) {
+        Ok(buffers) => buffers,
+        Err(_) => return Err(CheckFault::Memory),
+    };
     let mut checker = Checker::new();
-    let ended = answer_lines(&mut checker, buffers, MAX_LINES, input, output);
+    let ended = answer_lines(&mut checker, &mut buffers, MAX_LINES, input, output);
     conclude(ended, checker.is_spent())
 }
 

@@ -6,9 +6,8 @@ use Rattle.std.specs.FinMap.{find, put}
 use Rattle.std.specs.FinMap.Entries.{by_order}
 use Rattle.std.proofs.lemmas.List.{length-append}
 use Rattle.pn_join.specs.Leaves.{all_entries, begins_below, ends_below, leaf_for}
-use Rattle.pn_join.specs.Tables.{later, index_of}
-use Rattle.pn_join.proofs.Indices.{not_found_below}
-use Rattle.pn_join.proofs.Rising.{Below, Rising, AllBelow, AllBelow-from_Rising, Below-prefix, Below-back, Rising-prefix, Rising-back, Below-trans, Below-tied, flipped}
+use Rattle.pn_join.specs.Indices.{later, index_of}
+use Rattle.pn_join.proofs.Rising.{not_found_below, Below, Rising, AllBelow, AllBelow-from_Rising, Below-prefix, Below-back, Rising-prefix, Rising-back, Below-trans, Below-tied, flipped}
 
 -- an index further by n
 abbrev pub shifted : ℕ → Result ℕ ℕ → Result ℕ ℕ

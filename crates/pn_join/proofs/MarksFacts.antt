@@ -1,4 +1,4 @@
--- What marks reach, raised marks, and the lesser positions of two marks.
+-- What marks reach, raised marks, and the lesser positions of two.
 use Rattle.std.proofs.Common.{◌≡◌, ℕ, ◌≤◌, max, Bool, true, false, cond, T, List, [], ◌∷◌, Option, Some, None, option_map, unwrap_or, nat_lt, Less, Equal, Greater, is_eq, IsTrue, refl, sym, ap, ◌∙◌, subst, arith, zero-le, zero, suc, min, ◌++◌, Ordering, append_assoc}
 use Rattle.std.proofs.lemmas.Bool.{and_parts, and_from, or_parts}
 use Rattle.std.proofs.lemmas.Bool.Decides.{nat_tests}
@@ -8,16 +8,14 @@ use Rattle.std.specs.List.{list_any, filter_map, cons_option}
 use Rattle.std.specs.Ordering.{eq_by_cmp}
 use Rattle.std.specs.FinMap.{find, put, is_sorted}
 use Rattle.std.specs.FinMap.Entries.{by_order, find-put, find_tied, is_sorted-put, same_entries}
-use Rattle.std.specs.Cmp.{IsTotalOrder}
-use Rattle.std.specs.Option.{option_to_list}
 use Rattle.pn_join.specs.Marks.{Positions, is_position, are_positions, name_cmp, position_of, Reaches, falls_short, raised_marks, if_position, least_at, least_marks}
 use Rattle.pn_join.specs.declared.marks.TheConstants.{LAST_POSITION}
 use Rattle.pn_join.specs.Tables.{contents_at, optional_joined, key_by_key}
-use Rattle.pn_join.proofs.Indices.{not_found_below}
-use Rattle.pn_join.proofs.Puts.{tie, not_found_before}
-use Rattle.pn_join.proofs.Rising.{Below, Rising, AllBelow, Rising-from_sorted, sorted_from_Rising, Rising-prefix, AllBelow-from_Rising, flipped}
-
--- What marks reach, and raised marks.
+use Rattle.pn_join.proofs.Rising.{not_found_below, Below, Rising, AllBelow, Rising-from_sorted, sorted_from_Rising, Rising-prefix, AllBelow-from_Rising, flipped}
+use Rattle.pn_join.proofs.Puts.{tie}
+use Rattle.std.specs.Cmp.{IsTotalOrder}
+use Rattle.std.specs.Option.{option_to_list}
+use Rattle.pn_join.proofs.JoinSteps.{not_found_before}
 
 is_so : (b : Bool) → T b → b ≡ true
 is_so true h = refl
@@ -167,8 +165,6 @@ none_short marks (e ∷ es) rising reach =
     let here : e.1 ≤ position_of marks e.0 = subst (λ b. unwrap_or (cond b (Some e.1) (find name_cmp e.0 es)) 0 ≤ position_of marks e.0) (ap is_eq (tied_itself nat_list_cmp_total e.0)) (reach e.0) in
     let fits : nat_lt (position_of marks e.0) e.1 ≡ false = grind (arith, nat_tests) in
     rw fits (none_short marks es rising.1 (reached_rest marks e es rising.0 reach))
-
--- The lesser positions of two marks.
 
 -- the lesser position at a name
 abbrev lesser : Positions → Positions → List ℕ → ℕ

@@ -6,7 +6,7 @@ use Rattle.std.specs.List.{list_all}
 use Rattle.std.specs.Str.{IsUtf8}
 use Rattle.std.proofs.lemmas.Str.{IsUtf8-from_ascii}
 use Rattle.std.proofs.lemmas.Bool.Decides.{nat_tests}
-use Rattle.pn_join.specs.Marks.{is_name, is_name_byte, padded_name, HoldsName}
+use Rattle.pn_join.specs.Naming.{is_name, is_name_byte, padded_name, HoldsName}
 use Rattle.pn_join.specs.declared.marks.name.TheConstants.{MAX_NAME_BYTES}
 
 -- no byte of a name is above ASCII

@@ -1,18 +1,18 @@
--- What the index of a key in one leaf tells of the leaves.
-use Rattle.std.proofs.Common.{◌≡◌, ℕ, suc, ◌-◌, ◌<◌, true, false, List, [], ◌∷◌, length, Ok, Err, Ordering, Less, Equal, Greater, is_lt, refl, sym, ap, ◌∙◌, arith, append-nil, zero, cond, get_or, slice_get, option_map, option_copied, Option, None, Some, Result, is_eq, Bor, inl, inr, subst}
-use Rattle.std.specs.Prelude.{IfSome, ◌⊎◌}
+-- The index of a key in one leaf and in all, and searches for it.
+use Rattle.std.proofs.Common.{◌≡◌, ℕ, suc, ◌-◌, ◌<◌, true, false, List, [], ◌∷◌, length, Ok, Err, Ordering, Less, Equal, Greater, is_lt, refl, sym, ap, ◌∙◌, arith, append-nil, zero, ◌≤◌, get_or, Result, HoldsAt, suc-add, cond, slice_get, option_map, option_copied, Option, None, Some, is_eq, Bor, inl, inr, subst}
 use Rattle.std.specs.Ordering.{ordering_reverse}
-use Rattle.std.specs.Cmp.{IsTotalOrder, alike_right}
+use Rattle.std.specs.Cmp.{IsTotalOrder, alike_right, tied_back}
 use Rattle.std.specs.FinMap.Entries.{by_order}
-use Rattle.std.specs.List.{AllByRecursion}
-use Rattle.std.specs.FinMap.{find}
-use Rattle.pn_join.specs.Tables.{later, index_of, AreUpTo}
+use Rattle.pn_join.specs.Indices.{later, index_of, AreUpTo}
 use Rattle.pn_join.specs.Leaves.{ends_below, all_entries, begins_below, leaf_for}
 use Rattle.pn_join.proofs.LeafListSearch.{above_all, index_past, shifted-first, IsAbove, Below-leaf, Rising-leaf, ends_below-above, ends_below-before, leaf_for-at}
-use Rattle.pn_join.proofs.Rising.{Below, Rising, flipped, AllBelow, AllBelow-from_Rising, Rising-back, each_back, each_prefix}
-use Rattle.pn_join.proofs.Indices.{by_index}
-
--- The index of a key that no entry is above: that of the last entry, or the end.
+use Rattle.pn_join.proofs.Rising.{Below, Rising, flipped, by_index, AllBelow, AllBelow-from_Rising, Rising-back}
+use Rattle.std.specs.List.{AllWithin, AllByRecursion}
+use Rattle.std.specs.List.Sorted.{IsBinarySearchResult, IsSearchInRange, IsSortedBy}
+use Rattle.std.proofs.lemmas.List.Sorted.{searchable_from_sorted}
+use Rattle.std.specs.Prelude.{IfSome, ◌⊎◌}
+use Rattle.std.specs.FinMap.{find}
+use Rattle.pn_join.proofs.ListFacts.{each_back, each_prefix}
 
 tied : (r : Ordering) → is_lt r ≡ false → is_lt (ordering_reverse r) ≡ false → r ≡ Equal
 tied Less p q = cc
@@ -50,6 +50,38 @@ module _ {K X : Type 0} (cmp : K → K → Ordering) (key : K) (o : IsTotalOrder
       ∙ ap later (at_end (f ∷ es) h.1 up.1 (omega arith) not)
       ∙ sym (index_by e (f ∷ es) Greater (flipped o e.0 key (below_tied e.0 (f ∷ es) h.0 up.1 (omega arith) not)))
 
+  Below-at : (k : K) (es : List (K × X)) → Below cmp k es → (i : ℕ) (d : K × X) → i < length es → cmp k (get_or es i d).0 ≡ Less
+  Below-at k [] h i d lt = absurd (omega arith)
+  Below-at k (e ∷ es) h zero d lt = h.0
+  Below-at k (e ∷ es) h (suc i) d lt = Below-at k es h.1 i d (omega arith)
+
+  index_from_tie : (es : List (K × X)) → Rising cmp es → (i : ℕ) → i < length es → HoldsAt (λ e. cmp e.0 key ≡ Equal) es i → Ok i ≡ index_of cmp key es
+  index_from_tie [] h i lt at = absurd (omega arith)
+  index_from_tie (e ∷ es) h zero lt at = sym (index_by e es Equal (tied_back o e.0 key (at e)))
+  index_from_tie (e ∷ es) h (suc i) lt at =
+      let below : cmp e.0 key ≡ Less = sym (alike_right o (get_or es i e).0 key e.0 (at e)) ∙ Below-at e.0 es h.0 i e (omega arith) in
+      ap later (index_from_tie es h.1 i (omega arith) at) ∙ sym (index_by e es Greater (flipped o e.0 key below))
+
+  index_from_gap : (es : List (K × X)) (i : ℕ) → i ≤ length es → AllWithin (λ e. cmp e.0 key ≡ Less) es 0 i → AllWithin (λ e. cmp e.0 key ≡ Greater) es i (length es) → Err i ≡ index_of cmp key es
+  index_from_gap [] zero le lows highs = refl
+  index_from_gap [] (suc i) le lows highs = absurd (omega arith)
+  index_from_gap (e ∷ es) zero le lows highs = sym (index_by e es Less (flipped o e.0 key (highs 0 e (omega arith) (omega arith))))
+  index_from_gap (e ∷ es) (suc i) le lows highs =
+      ap later (index_from_gap es i (omega arith) (λ k d _ lt. lows (suc k) d (omega arith) (omega arith)) (λ k d ge lt. highs (suc k) d (omega arith) (omega arith)))
+      ∙ sym (index_by e es Greater (flipped o e.0 key (lows 0 e (omega arith) (omega arith))))
+
+  IsSortedBy-from_Rising : (es : List (K × X)) → Rising cmp es → IsSortedBy (λ a b. is_lt (cmp a.0 b.0)) es
+  IsSortedBy-from_Rising [] h k d ge lt = absurd (omega arith)
+  IsSortedBy-from_Rising (e ∷ es) h zero d ge lt = ap is_lt (o.antisymm (get_or es 0 d).0 e.0 ∙ ap ordering_reverse (Below-at e.0 es h.0 0 d (omega arith)))
+  IsSortedBy-from_Rising (e ∷ es) h (suc k) d ge lt = rw suc-add (IsSortedBy-from_Rising es h.1 k d (omega arith) (omega arith))
+
+  -- a binary search returns the index
+  pub index_from_search : (es : List (K × X)) → Rising cmp es → (r : Result ℕ ℕ) → IsSearchInRange r (length es) → IsBinarySearchResult (λ e. cmp e.0 key) es r → r ≡ index_of cmp key es
+  index_from_search es h (Ok i) within found = index_from_tie es h i within found
+  index_from_search es h (Err i) within found =
+      let parted = found (searchable_from_sorted o (λ e. e.0) es key (IsSortedBy-from_Rising es h)) in
+      index_from_gap es i within parted.0 parted.1
+
 module _ {K X : Type 0} (cmp : K → K → Ordering) (key : K) where
   -- the entry at the index has the content at the key
   abbrev HasContent : List (K × X) → Result ℕ ℕ → Type 0
@@ -69,7 +101,7 @@ module _ {K X : Type 0} (cmp : K → K → Ordering) (key : K) where
       ap (λ (n : ℕ). option_map (λ (x : K × X). x.1) (slice_get (e ∷ es) n)) at ∙ has j refl ∙ sym (first_found e es Greater p)
   content_later e es p (Err j) has i is = cc
 
-  content_at_tie : (es : List (K × X)) (i : ℕ) → Ok i ≡ index_of cmp key es → option_map (λ (e : K × X). e.1) (slice_get es i) ≡ find cmp key es
+  pub content_at_tie : (es : List (K × X)) (i : ℕ) → Ok i ≡ index_of cmp key es → option_map (λ (e : K × X). e.1) (slice_get es i) ≡ find cmp key es
   content_at_tie es = by_index cmp key HasContent (λ i is. cc) (λ e es p i is. cc) content_first content_later es
 
   -- the content read at the index of a key is that at the key
@@ -116,13 +148,13 @@ module _ {K X : Type 0} (cmp : K → K → Ordering) (key : K) where
           | false ↦ λ p. refl
         ] refl
 
-    above_tied : (e : K × X) (es : List (K × X)) → Below cmp e.0 es → BeginsTied es → cmp key e.0 ≡ Greater
-    above_tied e [] h t = absurd t
-    above_tied e (f ∷ es) h t = flipped o e.0 key (sym (alike_right o f.0 key e.0 (flipped o key f.0 t)) ∙ h.0)
+    tied_above : (e : K × X) (es : List (K × X)) → Below cmp e.0 es → BeginsTied es → cmp key e.0 ≡ Greater
+    tied_above e [] h t = absurd t
+    tied_above e (f ∷ es) h t = flipped o e.0 key (sym (alike_right o f.0 key e.0 (flipped o key f.0 t)) ∙ h.0)
 
     all_below_tied : (es : List (K × X)) (list : List (List (K × X))) → AllBelow cmp es (all_entries list) → (j : ℕ) → BeginsTied (get_or list j []) → IsAbove cmp key es
     all_below_tied [] list h j t = tt
-    all_below_tied (e ∷ es) list h j t = (above_tied e (get_or list j []) (Below-leaf cmp key o e.0 list h.0 j) t, all_below_tied es list h.1 j t)
+    all_below_tied (e ∷ es) list h j t = (tied_above e (get_or list j []) (Below-leaf cmp key o e.0 list h.0 j) t, all_below_tied es list h.1 j t)
 
     -- if a leaf begins with the key, the one before it ends below it
     tied-before : (list : List (List (K × X))) → AllByRecursion (λ leaf. 0 < length leaf) list → Rising cmp (all_entries list) → (i : ℕ) → BeginsTied (get_or list (suc i) []) → ends_below cmp key (get_or list i []) ≡ true
@@ -164,3 +196,16 @@ module _ {K X : Type 0} (valid : X → Type 0) where
   pub valid_read : (list : List (List (K × X))) (leaf : ℕ) (es : List (K × X)) (i : ℕ) (r : Option (Bor X)) → AllByRecursion (λ e. valid e.1) (all_entries list) → option_copied r ≡ option_map (λ (e : K × X). e.1) (slice_get es i) → es ≡ get_or list leaf [] → IfSome r (λ x. valid x.now)
   valid_read list leaf es i r h is same =
       valid_copied valid r (option_map (λ (e : K × X). e.1) (slice_get es i)) is (valid_there es i (subst (λ (xs : List (K × X)). AllByRecursion (λ e. valid e.1) xs) (sym same) (leaf_contents list leaf h)))
+
+module _ {K X : Type 0} (cmp : K → K → Ordering) (key : K) (valid : X → Type 0) where
+  valid_at : (es : List (K × X)) → AllByRecursion (λ e. valid e.1) es → IfSome (find cmp key es) valid
+  valid_at [] h = tt
+  valid_at (e ∷ es) h =
+      elim (is_eq (cmp key e.0)) as (λ b. IfSome (cond b (Some e.1) (find cmp key es)) valid) [
+        | true ↦ h.0
+        | false ↦ valid_at es h.1
+      ]
+
+  -- a content that is found is valid
+  pub valid_found : (es : List (K × X)) (found : Option (Bor X)) → option_copied found ≡ find cmp key es → AllByRecursion (λ e. valid e.1) es → IfSome found (λ x. valid x.now)
+  valid_found es found is h = valid_copied valid found (find cmp key es) is (valid_at es h)

@@ -1,72 +1,13 @@
--- What holds of each element of a list, entries whose keys rise, and where a test divides a list.
-use Rattle.std.proofs.Common.{List, [], ◌∷◌, ◌++◌, ◌≡◌, length, slice_get, Some, ap, arith, ℕ, zero, suc, ◌+◌, ◌<◌, ◌≤◌, Bool, true, false, cond, map, get_or, refl, ◌∙◌, sym, ◌&&◌, Ordering, Less, Equal, Greater, is_lt, IsTrue}
-use Rattle.std.specs.List.{AllByRecursion, prefix_len}
-use Rattle.std.specs.List.Sorted.{IsPartitionPoint}
+-- Entries whose keys rise, and what the index of a key says about them.
+use Rattle.std.proofs.Common.{◌≡◌, Bool, true, false, ◌&&◌, List, [], ◌∷◌, ◌++◌, Ordering, Less, Equal, Greater, is_lt, IsTrue, refl, ap, ◌∙◌, ℕ, suc, ◌+◌, ◌<◌, ◌≤◌, cond, length, get_or, set, insert, Some, None, Result, Ok, Err, MatchResult, is_eq, count_by, sym, zero-le, suc-le-suc, zero-add, one-add}
+use Rattle.std.specs.List.{AllByRecursion}
 use Rattle.std.specs.Ordering.{ordering_reverse}
 use Rattle.std.specs.Cmp.{IsTotalOrder}
-use Rattle.std.specs.FinMap.{is_sorted}
-use Rattle.std.specs.FinMap.Entries.{below_all}
-
--- What holds of each element of a list, by recursion on it.
-
-module _ {A : Type 0} (P : A → Type 0) where
-  pub each_of : ((x : A) → P x) → (xs : List A) → AllByRecursion P xs
-  each_of h [] = tt
-  each_of h (x ∷ xs) = (h x, each_of h xs)
-
-  pub each_prefix : (xs ys : List A) → AllByRecursion P (xs ++ ys) → AllByRecursion P xs
-  each_prefix [] ys h = tt
-  each_prefix (x ∷ xs) ys h = (h.0, each_prefix xs ys h.1)
-
-  pub each_back : (xs ys : List A) → AllByRecursion P (xs ++ ys) → AllByRecursion P ys
-  each_back [] ys h = h
-  each_back (x ∷ xs) ys h = each_back xs ys h.1
-
-  pub each_append : (xs ys : List A) → AllByRecursion P xs → AllByRecursion P ys → AllByRecursion P (xs ++ ys)
-  each_append [] ys h g = g
-  each_append (x ∷ xs) ys h g = (h.0, each_append xs ys h.1 g)
-
-  pub each_weaker : (Q : A → Type 0) → ((x : A) → P x → Q x) → (xs : List A) → AllByRecursion P xs → AllByRecursion Q xs
-  each_weaker Q f [] h = tt
-  each_weaker Q f (x ∷ xs) h = (f x h.0, each_weaker Q f xs h.1)
-
-  pub each_by_both : (Q R : A → Type 0) → ((x : A) → P x → Q x → R x) → (xs : List A) → AllByRecursion P xs → AllByRecursion Q xs → AllByRecursion R xs
-  each_by_both Q R f [] h g = tt
-  each_by_both Q R f (x ∷ xs) h g = (f x h.0 g.0, each_by_both Q R f xs h.1 g.1)
-
-  pub each_last : (xs : List A) (y : A) → AllByRecursion P (xs ++ y ∷ []) → P y
-  each_last xs y h = (each_back xs (y ∷ []) h).0
-
--- A list of one item.
-
-pub only_one : {A : Type 0} (xs : List A) (x : A) → length xs ≡ 1 → Some x ≡ slice_get xs 0 → xs ≡ x ∷ []
-only_one [] x one is = absurd (omega (arith, one))
-only_one (y ∷ []) x one is = let same : y ≡ x = cc in ap (λ z. z ∷ []) same
-only_one (y ∷ z ∷ ys) x one is = absurd (omega (arith, one))
-
--- Where a test divides a list.
-
-one_more : (i : ℕ) → suc i ≡ 1 + i
-one_more i = omega arith
-
-module _ {X : Type 0} (p : X → Bool) where
-  pub prefix_at : (xs : List X) (i : ℕ) → i ≤ length xs → IsPartitionPoint (λ y. p y ≡ true) (λ y. p y ≡ false) xs i → i ≡ prefix_len p xs
-  prefix_at [] i le h = omega (arith, le)
-  prefix_at (x ∷ xs) zero le h = sym (ap (λ b. cond b (1 + prefix_len p xs) 0) (h.1 0 x (omega arith) (omega arith)))
-  prefix_at (x ∷ xs) (suc i) le h =
-      one_more i ∙ ap (λ n. 1 + n) (prefix_at xs i (omega (arith, le)) ((λ k d ge lt. h.0 (suc k) d (omega (arith, ge)) (omega (arith, lt))), (λ k d ge lt. h.1 (suc k) d (omega (arith, ge)) (omega (arith, lt)))))
-      ∙ sym (ap (λ b. cond b (1 + prefix_len p xs) 0) (h.0 0 x (omega arith) (omega arith)))
-
-  pub prefix_len-map : {Y : Type 0} (f : Y → X) (ys : List Y) → prefix_len p (map f ys) ≡ prefix_len (λ y. p (f y)) ys
-  prefix_len-map f [] = refl
-  prefix_len-map f (y ∷ ys) = ap (λ n. cond (p (f y)) (1 + n) 0) (prefix_len-map f ys)
-
-pub get_or-leaves : {X Y : Type 0} (f : X → Y) (xs : List X) (i : ℕ) (d : X) (e : Y) → i < length xs → f (get_or xs i d) ≡ get_or (map f xs) i e
-get_or-leaves f [] i d e lt = absurd (omega (arith, lt))
-get_or-leaves f (x ∷ xs) zero d e lt = refl
-get_or-leaves f (x ∷ xs) (suc i) d e lt = get_or-leaves f xs i d e (omega (arith, lt))
-
--- Entries whose keys rise, as facts on each key and those after it.
+use Rattle.std.specs.FinMap.{is_sorted, find, put}
+use Rattle.std.specs.FinMap.Entries.{below_all, by_order}
+use Rattle.std.proofs.lemmas.List.Sums.{sum_by-cons}
+use Rattle.std.proofs.lemmas.Result.{MatchResult-at_ok, MatchResult-at_err}
+use Rattle.pn_join.specs.Indices.{later, index_of}
 
 both : (a b : Bool) → a ≡ true → b ≡ true → a && b ≡ true
 both true b p q = q
@@ -157,3 +98,106 @@ module _ {K X : Type 0} (cmp : K → K → Ordering) where
     pub Below-tied : (x y : K) (es : List (K × X)) → cmp x y ≡ Equal → Below y es → Below x es
     Below-tied x y [] p h = tt
     Below-tied x y (e ∷ es) p h = (o.congr x y e.0 p ∙ h.0, Below-tied x y es p h.1)
+
+module _ {K X : Type 0} (cmp : K → K → Ordering) (key : K) where
+  -- a fact of entries and a key's index among them, by the steps of the look-up
+  pub by_index : (P : List (K × X) → Result ℕ ℕ → Type 0) (at_end : P [] (Err 0)) (at_less : (e : K × X) (es : List (K × X)) → cmp key e.0 ≡ Less → P (e ∷ es) (Err 0)) (at_tie : (e : K × X) (es : List (K × X)) → cmp key e.0 ≡ Equal → P (e ∷ es) (Ok 0)) (past : (e : K × X) (es : List (K × X)) → cmp key e.0 ≡ Greater → (r : Result ℕ ℕ) → P es r → P (e ∷ es) (later r)) → (es : List (K × X)) → P es (index_of cmp key es)
+  by_index P at_end at_less at_tie past [] = at_end
+  by_index P at_end at_less at_tie past (e ∷ es) =
+      elim (cmp key e.0) as (λ r. cmp key e.0 ≡ r → P (e ∷ es) (by_order r (Err 0) (Ok 0) (later (index_of cmp key es)))) [
+        | Less ↦ λ p. at_less e es p
+        | Equal ↦ λ p. at_tie e es p
+        | Greater ↦ λ p. past e es p _ (by_index P at_end at_less at_tie past es)
+      ] refl
+
+  -- an index is within the entries, or at their end if the key is absent
+  abbrev IsWithin : List (K × X) → Result ℕ ℕ → Type 0
+  IsWithin es r = MatchResult r (λ i. i < length es) (λ i. i ≤ length es)
+
+  later_within : (e : K × X) (es : List (K × X)) (r : Result ℕ ℕ) → IsWithin es r → IsWithin (e ∷ es) (later r)
+  later_within e es (Ok i) h = suc-le-suc h
+  later_within e es (Err i) h = suc-le-suc h
+
+  pub index_within : (es : List (K × X)) → IsWithin es (index_of cmp key es)
+  index_within es = by_index IsWithin zero-le (λ e es p. zero-le) (λ e es p. suc-le-suc zero-le) (λ e es p r h. later_within e es r h) es
+
+  -- the entry at the index has the key, or no entry does
+  abbrev IsFound : List (K × X) → Result ℕ ℕ → Type 0
+  IsFound es r = MatchResult r (λ i. (x : K × X) → x ≡ get_or es i x → find cmp key es ≡ Some x.1) (λ i. find cmp key es ≡ None)
+
+  -- a key below those of all entries is at none of them
+  pub not_found_below : (es : List (K × X)) → Below cmp key es → find cmp key es ≡ None
+  not_found_below [] h = refl
+  not_found_below (e ∷ es) h = ap (λ r. cond (is_eq r) (Some e.1) (find cmp key es)) h.0 ∙ not_found_below es h.1
+
+  not_first : (e : K × X) (es : List (K × X)) → cmp key e.0 ≡ Greater → find cmp key (e ∷ es) ≡ find cmp key es
+  not_first e es p = ap (λ r. cond (is_eq r) (Some e.1) (find cmp key es)) p
+
+  later_found : (e : K × X) (es : List (K × X)) → cmp key e.0 ≡ Greater → (r : Result ℕ ℕ) → IsFound es r → IsFound (e ∷ es) (later r)
+  later_found e es p (Ok i) h = λ x is. not_first e es p ∙ h x is
+  later_found e es p (Err i) h = not_first e es p ∙ h
+
+  -- what `put` does at the index
+  abbrev IsPut : X → List (K × X) → Result ℕ ℕ → Type 0
+  IsPut v es r = MatchResult r (λ i. (x : K × X) → x ≡ get_or es i x → put cmp key v es ≡ set es i (x.0, v)) (λ i. put cmp key v es ≡ insert es i (key, v))
+
+  put_by : (v : X) (e : K × X) (es : List (K × X)) (r : Ordering) → cmp key e.0 ≡ r → put cmp key v (e ∷ es) ≡ by_order r ((key, v) ∷ e ∷ es) ((e.0, v) ∷ es) (e ∷ put cmp key v es)
+  put_by v e es r p = ap (λ r. by_order r ((key, v) ∷ e ∷ es) ((e.0, v) ∷ es) (e ∷ put cmp key v es)) p
+
+  later_put : (v : X) (e : K × X) (es : List (K × X)) → cmp key e.0 ≡ Greater → (r : Result ℕ ℕ) → IsPut v es r → IsPut v (e ∷ es) (later r)
+  later_put v e es p (Ok i) h = λ x is. put_by v e es Greater p ∙ ap (λ fs. e ∷ fs) (h x is)
+  later_put v e es p (Err i) h = put_by v e es Greater p ∙ ap (λ fs. e ∷ fs) h
+
+  pub put_at_index : (v : X) (es : List (K × X)) → IsPut v es (index_of cmp key es)
+  put_at_index v es =
+      by_index (IsPut v) refl (λ e es p. put_by v e es Less p) (λ e es p x is. put_by v e es Equal p ∙ ap (λ k. (k, v) ∷ es) (ap (λ y. y.0) (sym is))) (λ e es p r h. later_put v e es p r h) es
+
+  module _ (o : IsTotalOrder cmp) where
+    pub found_at_index : (es : List (K × X)) → Rising cmp es → IsFound es (index_of cmp key es)
+    found_at_index es =
+        by_index (λ es r. Rising cmp es → IsFound es r) (λ h. refl)
+        (λ e es p h. not_found_below (e ∷ es) (p, Below-trans cmp o key e.0 es p h.0))
+        (λ e es p h x is. ap (λ r. cond (is_eq r) (Some e.1) (find cmp key es)) p ∙ ap (λ y. Some y.1) (sym is))
+        (λ e es p r f h. later_found e es p r (f h.1)) es
+
+    pub found_at_tie : (es : List (K × X)) → Rising cmp es → (i : ℕ) → Ok i ≡ index_of cmp key es → (x : K × X) → x ≡ get_or es i x → find cmp key es ≡ Some x.1
+    found_at_tie es h i is x at = MatchResult-at_ok (λ i. (x : K × X) → x ≡ get_or es i x → find cmp key es ≡ Some x.1) (λ i. find cmp key es ≡ None) i (sym is) (found_at_index es h) x at
+
+    pub found_at_gap : (es : List (K × X)) → Rising cmp es → (i : ℕ) → Err i ≡ index_of cmp key es → find cmp key es ≡ None
+    found_at_gap es h i is = MatchResult-at_err (λ i. (x : K × X) → x ≡ get_or es i x → find cmp key es ≡ Some x.1) (λ i. find cmp key es ≡ None) i (sym is) (found_at_index es h)
+
+  pub tie_within : (es : List (K × X)) (i : ℕ) → Ok i ≡ index_of cmp key es → i < length es
+  tie_within es i is = MatchResult-at_ok (λ i. i < length es) (λ i. i ≤ length es) i (sym is) (index_within es)
+
+  pub gap_within : (es : List (K × X)) (i : ℕ) → Err i ≡ index_of cmp key es → i ≤ length es
+  gap_within es i is = MatchResult-at_err (λ i. i < length es) (λ i. i ≤ length es) i (sym is) (index_within es)
+
+  pub put_at_tie : (v : X) (es : List (K × X)) (i : ℕ) → Ok i ≡ index_of cmp key es → (x : K × X) → x ≡ get_or es i x → put cmp key v es ≡ set es i (x.0, v)
+  put_at_tie v es i is x at = MatchResult-at_ok (λ i. (x : K × X) → x ≡ get_or es i x → put cmp key v es ≡ set es i (x.0, v)) (λ i. put cmp key v es ≡ insert es i (key, v)) i (sym is) (put_at_index v es) x at
+
+  pub put_at_gap : (v : X) (es : List (K × X)) (i : ℕ) → Err i ≡ index_of cmp key es → put cmp key v es ≡ insert es i (key, v)
+  put_at_gap v es i is = MatchResult-at_err (λ i. (x : K × X) → x ≡ get_or es i x → put cmp key v es ≡ set es i (x.0, v)) (λ i. put cmp key v es ≡ insert es i (key, v)) i (sym is) (put_at_index v es)
+
+  module _ (o : IsTotalOrder cmp) where
+    -- how many keys are less
+    abbrev IsCount : List (K × X) → Result ℕ ℕ → Type 0
+    IsCount es r = MatchResult r (λ i. i ≡ count_by (λ e. is_lt (cmp e.0 key)) es) (λ i. i ≡ count_by (λ e. is_lt (cmp e.0 key)) es)
+
+    none_less : (es : List (K × X)) → Below cmp key es → 0 ≡ count_by (λ e. is_lt (cmp e.0 key)) es
+    none_less [] h = refl
+    none_less (e ∷ es) h =
+        rw sum_by-cons (rw (ap is_lt (flipped o key e.0 h.0)) (none_less es h.1 ∙ sym (zero-add _)))
+
+    count_first : (e : K × X) (es : List (K × X)) (r : Ordering) → cmp e.0 key ≡ r → count_by (λ e. is_lt (cmp e.0 key)) (e ∷ es) ≡ cond (is_lt r) 1 0 + count_by (λ e. is_lt (cmp e.0 key)) es
+    count_first e es r p = sum_by-cons _ e es ∙ ap (λ r. cond (is_lt r) 1 0 + count_by (λ e. is_lt (cmp e.0 key)) es) p
+
+    later_count : (e : K × X) (es : List (K × X)) → cmp key e.0 ≡ Greater → (r : Result ℕ ℕ) → IsCount es r → IsCount (e ∷ es) (later r)
+    later_count e es p (Ok i) h = ap suc h ∙ sym (count_first e es Less (flipped o key e.0 p) ∙ one-add _)
+    later_count e es p (Err i) h = ap suc h ∙ sym (count_first e es Less (flipped o key e.0 p) ∙ one-add _)
+
+    pub count_at_index : (es : List (K × X)) → Rising cmp es → IsCount es (index_of cmp key es)
+    count_at_index es =
+        by_index (λ es r. Rising cmp es → IsCount es r) (λ h. refl)
+        (λ e es p h. none_less (e ∷ es) (p, Below-trans cmp o key e.0 es p h.0))
+        (λ e es p h. none_less es (Below-tied cmp o key e.0 es p h.0) ∙ sym (count_first e es Equal (flipped o key e.0 p) ∙ zero-add _))
+        (λ e es p r f h. later_count e es p r (f h.1)) es

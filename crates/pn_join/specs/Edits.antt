@@ -1,97 +1,56 @@
--- Edits: contents put into leaves and into blocks, and the leaves afterwards.
-use Rattle.std.specs.Prelude.{◌≡◌, ℕ, zero, suc, ◌<◌, ◌≤◌, List, [], ◌∷◌, Option, None, Some, map, get_or, set, length, vec_capacity}
+-- Edits: contents put among entries, each at the index of its key among the entries as they were.
+use Rattle.std.specs.Prelude.{◌≡◌, ℕ, ◌<◌, ◌≤◌, List, [], ◌∷◌, Result, IfSome, IsTrue, map}
 use Rattle.std.specs.declared.cmp.Ordering.{Ordering}
-use Rattle.std.specs.List.{AllByRecursion, fold, flat_map}
-use Rattle.std.specs.FinMap.{put}
+use Rattle.std.specs.List.{AllByRecursion, fold}
+use Rattle.std.specs.FinMap.{is_sorted}
 use Rattle.pn_join.specs.declared.table.change.TableChange.{TableChange}
 use Rattle.pn_join.specs.declared.table.edit.Edit.{Edit}
-use Rattle.pn_join.specs.declared.table.leaf.Leaf.{Leaf}
-use Rattle.pn_join.specs.declared.table.leaf.Leaf.TheVariants.{Own, Shared}
-use Rattle.pn_join.specs.declared.table.leaf_join.TheConstants.{MAX_LEAF_ENTRIES}
-use Rattle.pn_join.specs.Leaves.{leaf_for}
-use Rattle.pn_join.specs.Blocks.{in_blocks}
-use Rattle.pn_join.specs.declared.table.block_edits.BlockEdits.{BlockEdits}
-
--- Edits: contents put into leaves, and the leaves afterwards.
-
--- the leaf, the key and the new content of an edit
-abbrev pub put_of : {K C : Type 0} → Edit K C → ℕ × (K × C)
-put_of edit = (edit.leaf, (edit.change.key, edit.change.after))
-
--- what all edits put, apart from the contents before
-abbrev pub puts_in : {K C : Type 0} → List (Edit K C) → List (ℕ × (K × C))
-puts_in edits = map put_of edits
-
--- the leaves after a value is put at its key in its leaf
-abbrev pub put_at : {K C : Type 0} → (K → K → Ordering) → List (List (K × C)) → Edit K C → List (List (K × C))
-put_at cmp leaves edit = set leaves edit.leaf (put cmp edit.change.key edit.change.after (get_or leaves edit.leaf []))
-
--- the leaves after all values are put
-abbrev pub put_all : {K C : Type 0} → (K → K → Ordering) → List (List (K × C)) → List (Edit K C) → List (List (K × C))
-put_all cmp leaves edits = fold (put_at cmp) leaves edits
-
--- no leaf has too many entries
-abbrev pub AreFew : {A : Type 0} → List (List A) → Type 0
-AreFew leaves = AllByRecursion (λ leaf. length leaf ≤ MAX_LEAF_ENTRIES) leaves
-
--- the leaf is not shared, and has the capacity of a full one
-abbrev pub IsReady : {K C : Type 0} → Leaf K C → Type 0
-IsReady (Own entries) = MAX_LEAF_ENTRIES ≤ vec_capacity entries
-IsReady (Shared entries) = ⊥
-
--- the leaf at the index is ready
-abbrev pub IsReadyAt : {K C : Type 0} → List (Leaf K C) → ℕ → Type 0
-IsReadyAt [] i = ⊥
-IsReadyAt (leaf ∷ leaves) zero = IsReady leaf
-IsReadyAt (leaf ∷ leaves) (suc i) = IsReadyAt leaves i
+use Rattle.pn_join.specs.Indices.{index_of}
+use Rattle.pn_join.specs.Leaves.{last_of}
+use Rattle.pn_join.specs.PutAt.{place, from_start, put_at, IsAmong}
 
 -- the changes of the edits
 abbrev pub changes_in : {K C : Type 0} → List (Edit K C) → List (TableChange K C)
 changes_in edits = map (λ edit. edit.change) edits
 
--- each edit has the index of its key's leaf
-abbrev pub AreAimed : {K C : Type 0} → (K → K → Ordering) → List (List (K × C)) → List (Edit K C) → Type 0
-AreAimed cmp leaves edits = AllByRecursion (λ edit. edit.leaf ≡ leaf_for cmp edit.change.key leaves) edits
+-- the index, the key and the new content of an edit
+abbrev pub put_of : {K C : Type 0} → Edit K C → Result ℕ ℕ × (K × C)
+put_of edit = (edit.index, (edit.change.key, edit.change.after))
 
--- the edit, if there is one, has the index of its key's leaf
-abbrev pub IsAimed : {K C : Type 0} → (K → K → Ordering) → List (List (K × C)) → Option (Edit K C) → Type 0
-IsAimed cmp leaves None = Unit {0}
-IsAimed cmp leaves (Some edit) = edit.leaf ≡ leaf_for cmp edit.change.key leaves
+-- what all edits put, apart from the contents before
+abbrev pub puts_in : {K C : Type 0} → List (Edit K C) → List (Result ℕ ℕ × (K × C))
+puts_in edits = map put_of edits
 
--- the edits are in leaf order, none before this leaf
-abbrev pub GoUp : {K C : Type 0} → ℕ → List (Edit K C) → Type 0
-GoUp leaf [] = Unit {0}
-GoUp leaf (edit ∷ edits) = (leaf ≤ edit.leaf) × GoUp edit.leaf edits
+-- the entries after an edit, where the first of them has the index `start`
+abbrev pub put_edit : {K C : Type 0} → ℕ → List (K × C) → Edit K C → List (K × C)
+put_edit start entries edit = put_at (from_start start edit.index) edit.change.key edit.change.after entries
 
--- the edits are in leaf order, and no leaf gets too many entries by them
-pub record FitLeaves {K C : Type 0} (cmp : K → K → Ordering) (leaves : List (List (K × C))) (edits : List (Edit K C)) : Type 0 where
-  pub within : AllByRecursion (λ edit. edit.leaf < length leaves) edits
-  pub sizes : AreFew (put_all cmp leaves edits)
-  pub order : GoUp 0 edits
+-- the entries after edits, one after another
+abbrev pub put_in_turn : {K C : Type 0} → ℕ → List (K × C) → List (Edit K C) → List (K × C)
+put_in_turn start entries edits = fold (put_edit start) entries edits
 
--- Edits of several blocks.
+-- each edit's index is that of its key
+abbrev pub AreIndexed : {K C : Type 0} → (K → K → Ordering) → List (K × C) → List (Edit K C) → Type 0
+AreIndexed cmp entries edits = AllByRecursion (λ edit. edit.index ≡ index_of cmp edit.change.key entries) edits
 
--- the changes of all blocks' edits
-abbrev pub changes_in_blocks : {K C : Type 0} → List (BlockEdits K C) → List (TableChange K C)
-changes_in_blocks all = flat_map (λ edits. changes_in edits.edits.items) all
+-- the keys strictly rise
+abbrev pub RiseByKey : {K C : Type 0} → (K → K → Ordering) → List (Edit K C) → Type 0
+RiseByKey cmp edits = IsTrue (is_sorted cmp (map (λ edit. (edit.change.key, edit.change.after)) edits))
 
--- what all blocks' edits put, with the index of each block
-abbrev pub puts_in_blocks : {K C : Type 0} → List (BlockEdits K C) → List (ℕ × List (ℕ × (K × C)))
-puts_in_blocks all = map (λ edits. (edits.block, puts_in edits.edits.items)) all
+-- the indices do not fall
+abbrev pub InOrder : {K C : Type 0} → List (Edit K C) → Type 0
+InOrder [] = Unit {0}
+InOrder (edit ∷ edits) = AllByRecursion (λ later. place edit.index ≤ place later.index) edits × InOrder edits
 
--- edits of a block, each with the block's index
-abbrev pub placed_at : {K C : Type 0} → ℕ → List (Edit K C) → List (ℕ × Edit K C)
-placed_at block edits = map (λ edit. (block, edit)) edits
+-- the indices do not fall, and lie among so many entries
+pub record AreEditsWithin {K C : Type 0} (count : ℕ) (edits : List (Edit K C)) : Type 0 where
+  pub order : InOrder edits
+  pub among : AllByRecursion (λ edit. IsAmong count edit.index) edits
 
--- all edits, each with the index of its block
-abbrev pub placed : {K C : Type 0} → List (BlockEdits K C) → List (ℕ × Edit K C)
-placed all = flat_map (λ edits. placed_at edits.block edits.edits.items) all
+-- the last of the edits, if any, comes before this index
+abbrev pub StopsBefore : {K C : Type 0} → ℕ → List (Edit K C) → Type 0
+StopsBefore start edits = IfSome (last_of edits) (λ edit. place edit.index < start)
 
--- the keys of a block's edits belong into that block, and each edit has the index of its leaf in it
-pub record AreAimedAt {K C : Type 0} (cmp : K → K → Ordering) (blocks : List (List (List (K × C)))) (edits : BlockEdits K C) : Type 0 where
-  pub block : AllByRecursion (λ edit. edits.block ≡ leaf_for cmp edit.change.key (in_blocks blocks)) edits.edits.items
-  pub leaves : AreAimed cmp (get_or blocks edits.block []) edits.edits.items
-
--- the same of all edits
-abbrev pub AreAimedAtBlocks : {K C : Type 0} → (K → K → Ordering) → List (List (List (K × C))) → List (BlockEdits K C) → Type 0
-AreAimedAtBlocks cmp blocks all = AllByRecursion (λ edits. AreAimedAt cmp blocks edits) all
+-- each edit's index, counted from a start, lies among so many entries
+abbrev pub AreFor : {K C : Type 0} → ℕ → ℕ → List (Edit K C) → Type 0
+AreFor start count edits = AllByRecursion (λ edit. IsAmong count (from_start start edit.index)) edits

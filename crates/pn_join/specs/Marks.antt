@@ -1,35 +1,11 @@
--- Names, and marks: positions of streams by name. An absent name counts as 0.
-use Rattle.std.specs.Prelude.{◌≡◌, ℕ, ◌-◌, ◌≤◌, Bool, ◌&&◌, ◌||◌, nat_le, ◌==◌, IsTrue, List, ◌++◌, length, take, replicate, zero, suc, max, min, nat_lt, [], ◌∷◌, Option, None, Some, unwrap_or}
-use Rattle.std.specs.List.{list_all, filter_map, position}
+-- Marks: positions of streams by name. An absent name counts as 0.
+use Rattle.std.specs.Prelude.{ℕ, zero, suc, ◌≤◌, max, min, Bool, ◌&&◌, nat_lt, nat_le, List, [], ◌∷◌, Option, None, Some, unwrap_or}
 use Rattle.std.specs.declared.cmp.Ordering.{Ordering}
 use Rattle.std.specs.Ordering.{nat_cmp}
 use Rattle.std.specs.Cmp.Lexicographic.{slice_cmp}
+use Rattle.std.specs.List.{filter_map, list_all, position}
 use Rattle.std.specs.FinMap.{find, put}
-use Rattle.pn_join.specs.declared.marks.name.TheConstants.{MAX_NAME_BYTES}
 use Rattle.pn_join.specs.declared.marks.TheConstants.{LAST_POSITION}
-
--- Which bytes are a name, and how it is held.
-
--- `a` to `z`, `0` to `9`, or `-`
-abbrev pub is_name_byte : ℕ → Bool
-is_name_byte b = (nat_le 97 b && nat_le b 122) || (nat_le 48 b && nat_le b 57) || b == 45
-
--- at least one such byte, and not too many
-abbrev pub is_name : List ℕ → Bool
-is_name bytes = nat_le 1 (length bytes) && nat_le (length bytes) MAX_NAME_BYTES && list_all is_name_byte bytes
-
--- a name and the zeros after it, as many bytes as the longest name has
-abbrev pub padded_name : List ℕ → List ℕ
-padded_name name = name ++ replicate (MAX_NAME_BYTES - length name) 0
-
--- the first bytes are a name, and zeros come after it
-pub record HoldsName (array : List ℕ) (count : ℕ) : Type 0 where
-  pub within : count ≤ MAX_NAME_BYTES
-  pub named : IsTrue (is_name (take count array))
-  pub bytes : padded_name (take count array) ≡ array
-  pub len : length (take count array) ≡ count
-
--- Marks: positions of streams by name. An absent name counts as 0.
 
 -- names and their positions, in byte order of names
 abbrev pub Positions : Type 0

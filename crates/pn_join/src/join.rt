@@ -1,7 +1,7 @@
 //! Values that can be copied, and values that join with others of their type.
 
 ghost use Rattle.std.specs.Prelude.{◌≡◌, ◌≢◌, unwrap_or, IfOk, IfSome, OnOk, OnErr};
-ghost use Rattle.pn_join.specs.Tables.{JoinLaws};
+ghost use Rattle.pn_join.specs.Laws.{JoinLaws};
 
 use crate::NoMemory;
 

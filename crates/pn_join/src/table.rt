@@ -1,26 +1,27 @@
 //! Tables: finite maps in key order that join key by key.
 
-ghost use Rattle.std.specs.Prelude.{◌≡◌, ◌^◌, ◌<◌, ◌≤◌, ◌∷◌, [], ◌++◌, List, length, map, option_map, slice_get, slice_range, drop, count_by, IsTrue, IfOk};
-ghost use Rattle.std.specs.Prelude.{IfSome, OnOk, OnErr};
+ghost use Rattle.std.specs.Prelude.{◌≡◌, ◌^◌, ◌<◌, ◌≤◌, ◌∷◌, [], ◌++◌, List, length, map};
+ghost use Rattle.std.specs.Prelude.{option_map, slice_get, slice_range, drop, count_by, IsTrue, IfOk, IfSome, OnOk, OnErr};
 ghost use Rattle.std.specs.Option.{option_copied};
 ghost use Rattle.std.specs.Ordering.{is_lt};
 ghost use Rattle.std.specs.FinMap.{find, put, is_sorted};
-ghost use Rattle.pn_join.specs.Tables.{contents_at, key_by_key, IsTable, AreChanges};
-ghost use Rattle.pn_join.specs.Leaves.{all_entries, AreLeavesOf, ChangesOneLeaf};
+ghost use Rattle.pn_join.specs.Tables.{contents_at, key_by_key, IsTable};
+ghost use Rattle.pn_join.specs.Leaves.{all_entries, AreLeavesOf};
+ghost use Rattle.pn_join.specs.PutInLeaves.{ChangesOneLeaf};
+ghost use Rattle.pn_join.specs.TableChanges.{AreChanges};
 
-mod block;
-mod block_edits;
-mod block_entries;
-mod block_list;
-mod block_ref;
+mod bulk_join;
 mod change;
+mod counts;
 mod edit;
 mod entries;
-mod entry_counts;
 mod leaf;
 mod leaf_join;
 mod leaf_list;
+mod node;
+mod open_leaf;
 mod rising;
+mod row;
 
 use crate::{Dup, Join, NoMemory};
 pub use change::{TableChange, dup_optional};
@@ -217,12 +218,12 @@ impl<K: Ord + Dup, C: Join> Table<K, C> {
     {
         self.recall_table();
         other.recall_table();
-        let bulk = self.leaf_list.join_with_changes(&other.leaf_list)?;
-        if bulk.is_done {
-            return Ok(bulk.changes);
+        let told = self.leaf_list.join_with_changes(&other.leaf_list)?;
+        if told.is_done {
+            return Ok(told.changes);
         }
         *self = self.join_with(other)?;
-        Ok(bulk.changes)
+        Ok(told.changes)
     }
 }
 
@@ -237,7 +238,7 @@ impl<K: Ord + Dup, C: Join> Dup for Table<K, C> {
 impl<K: Ord + Dup, C: Join> Join for Table<K, C> {
     ghost use Rattle.std.specs.Prelude.{Option};
     ghost use Rattle.pn_join.specs.Tables.{contents_at, key_by_key, IsTable};
-    ghost use Rattle.pn_join.specs.Proofs.{key_by_key-laws};
+    ghost use Rattle.pn_join.specs.Proofs.TableLaws.{key_by_key-laws};
 
     ghost Meaning = { K → Option C.Meaning };
 

@@ -1,11 +1,11 @@
 //! The members of parsed values: by their kinds, by their names, and moved out of the value.
 
-ghost use Rattle.std.specs.Prelude.{◌≡◌, is_some, option_map, string_cmp};
-ghost use Rattle.std.specs.BTreeMap.{IsOrdered};
-ghost use Rattle.std.specs.List.{list_any};
-ghost use Rattle.std.specs.Str.{bytes_eq};
 ghost use Rattle.serde_json.specs.Find.{as_str, as_array, as_object, get};
 ghost use Rattle.serde_json.specs.View.{view, items_view, members_view};
+ghost use Rattle.std.specs.BTreeMap.{IsOrdered};
+ghost use Rattle.std.specs.List.{list_any};
+ghost use Rattle.std.specs.Prelude.{◌≡◌, is_some, option_map, string_cmp};
+ghost use Rattle.std.specs.Str.{bytes_eq};
 ghost use Rattle.pn_json.specs.Answers.{Shows};
 ghost use Rattle.pn_json.specs.Members.{seen, signed_number, whole_number, member_as, text_at, texts, only_named, no_others};
 

@@ -53,8 +53,8 @@ pub struct Front {
 }
 
 impl Model for Front {
-    ghost use Rattle.std.specs.Prelude.{List};
     ghost use Rattle.pn_live.specs.PublishedTablets.{TabletNoteValue};
+    ghost use Rattle.std.specs.Prelude.{List};
 
     ghost Value = { List TabletNoteValue };
 

@@ -3,7 +3,7 @@ use Rattle.std.proofs.Common.{◌≡◌, ℕ, List, [], ◌∷◌, length, codes
 use Rattle.std.specs.Option.{ok_or}
 use Rattle.serde_json.specs.Data.{Data, null, boolean, number, string, array, object, Items, no_items, item, Members}
 use Rattle.serde_json.specs.Find.{get, get_member, as_str, as_array, as_object}
-use Rattle.pn_join.specs.Marks.{is_name}
+use Rattle.pn_join.specs.Naming.{is_name}
 use Rattle.pn_json.specs.Members.{whole_number, member_as, each_in, text_at}
 use Rattle.pn_json.proofs.LookUps.{bind_ok, guard_ok, object_from_as_object, ok_or_ok}
 use Rattle.pn_record.specs.Grammar.{shape_in, ranges_in, image_in}

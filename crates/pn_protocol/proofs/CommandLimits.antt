@@ -6,7 +6,8 @@ use Rattle.std.specs.List.{list_all}
 use Rattle.serde_json.specs.Data.{Members, Data, number, string, array, object, unsigned, member, no_members, null, boolean}
 use Rattle.serde_json.specs.View.{view, items_view, items_of}
 use Rattle.serde_json.specs.declared.value.Value.{Value}
-use Rattle.pn_join.specs.Marks.{is_name, Positions}
+use Rattle.pn_join.specs.Naming.{is_name}
+use Rattle.pn_join.specs.Marks.{Positions}
 use Rattle.pn_json.specs.Answers.{◌>>=◌, fault_as}
 use Rattle.pn_json.specs.Members.{only_named, each_in, texts}
 use Rattle.pn_json.proofs.LookUps.{guard_ok}

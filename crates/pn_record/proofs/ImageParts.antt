@@ -9,7 +9,7 @@ use Rattle.serde_json.specs.Data.{Data, object, Members, boolean, string, no_mem
 use Rattle.serde_json.specs.Find.{get, as_object}
 use Rattle.serde_json.specs.View.{view, members_view}
 use Rattle.serde_json.specs.declared.value.Value.{Value}
-use Rattle.pn_join.specs.Marks.{is_name}
+use Rattle.pn_join.specs.Naming.{is_name}
 use Rattle.pn_json.specs.Answers.{fault_as}
 use Rattle.pn_json.proofs.LookUps.{bind_ok, ok_or_ok, passed, object_from_as_object}
 use Rattle.pn_json.specs.Members.{text_at, seen}

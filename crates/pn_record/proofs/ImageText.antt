@@ -13,7 +13,7 @@ use Rattle.serde_json.specs.Find.{of_integer}
 use Rattle.serde_json.specs.Written.{number_text, has_float, members_have_float, compact_text, members_text, comma_if}
 use Rattle.serde_json.specs.Read.{read}
 use Rattle.serde_json.proofs.OnLiterals.{serde_json_on_literals}
-use Rattle.pn_join.specs.Marks.{is_name, is_name_byte}
+use Rattle.pn_join.specs.Naming.{is_name, is_name_byte}
 use Rattle.pn_record.specs.Limits.{value_size, field_size, is_body, is_content, fields_fit, names_rise, ContentValue, FieldValue, number_value, text_value, Field, is_number, is_value, is_field, is_key, is_version}
 use Rattle.pn_record.specs.Writing.{value_data, version_data, fields_data, body_data, content_data, image_data, body_text}
 use Rattle.pn_record.specs.Reading.{is_image, IsImageLine, reading}

@@ -1,3 +1,4 @@
+pub mod Crossing
 pub mod CellLists
 pub mod CellMaps
 pub mod Differing

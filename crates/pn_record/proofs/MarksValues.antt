@@ -16,9 +16,11 @@ use Rattle.serde_json.specs.View.{members_view}
 use Rattle.serde_json.specs.declared.value.Value.{Value}
 use Rattle.serde_json.specs.Data.{Data, Members, member, no_members, number, unsigned, put, object}
 use Rattle.serde_json.specs.Find.{as_object}
-use Rattle.pn_join.specs.Marks.{Positions, name_cmp, is_position, are_positions, is_name}
+use Rattle.pn_join.specs.Marks.{Positions, name_cmp, is_position, are_positions}
+use Rattle.pn_join.specs.Naming.{is_name}
 use Rattle.pn_join.specs.Tables.{contents_at, key_by_key}
-use Rattle.pn_join.proofs.Puts.{not_found_before, contents_at_push, same_tables}
+use Rattle.pn_join.proofs.JoinSteps.{not_found_before, contents_at_push}
+use Rattle.pn_join.proofs.Puts.{same_tables}
 use Rattle.pn_join.proofs.Rising.{Rising, Rising-from_sorted, sorted_from_Rising, Rising-prefix}
 use Rattle.pn_json.specs.Answers.{IsUnless}
 use Rattle.pn_json.specs.Members.{whole_number}

@@ -8,7 +8,7 @@ use Rattle.serde_json.specs.Data.{Data, string, object, Members, no_members, mem
 use Rattle.serde_json.specs.Find.{get_member, as_object}
 use Rattle.serde_json.specs.View.{members_view}
 use Rattle.serde_json.specs.declared.value.Value.{Value}
-use Rattle.pn_join.specs.Marks.{is_name}
+use Rattle.pn_join.specs.Naming.{is_name}
 use Rattle.pn_json.proofs.LookUps.{passed, object_from_as_object, Rise, Rise-map, get_member-member, get_member-unnamed, same_members, or_elsewhere}
 use Rattle.pn_json.specs.Members.{only_named}
 use Rattle.pn_record.specs.Limits.{is_body, is_content, fields_fit, names_rise, field_size, Field, is_key, is_version, is_field}

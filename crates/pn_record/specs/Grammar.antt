@@ -6,7 +6,7 @@ use Rattle.std.specs.declared.alloc.Global.{Global}
 use Rattle.serde_json.specs.Data.{Data, Members, no_members, member, Items, no_items, item}
 use Rattle.serde_json.specs.Find.{as_bool, as_str, as_object, get, as_array, get_member}
 use Rattle.serde_json.specs.declared.value.Value.{Value}
-use Rattle.pn_join.specs.Marks.{is_name}
+use Rattle.pn_join.specs.Naming.{is_name}
 use Rattle.pn_json.specs.Members.{signed_number, whole_number, member_as, no_others, seen}
 use Rattle.pn_json.specs.Answers.{◌>>=◌, fault_as}
 use Rattle.pn_record.specs.declared.fault.ImageFault.{ImageFault}

@@ -12,7 +12,7 @@ use Rattle.std.specs.declared.cmp.Ordering.{Ordering}
 use Rattle.std.proofs.lemmas.List.{map-append}
 use Rattle.std.specs.FinMap.Entries.{by_order}
 use lib.Dec.{T}
-use Rattle.pn_join.specs.Tables.{JoinLaws}
+use Rattle.pn_join.specs.Laws.{JoinLaws}
 use Rattle.pn_record.specs.Limits.{FieldValue, number_value, text_value, Field, ContentValue}
 use Rattle.pn_record.specs.Sets.{version_cmp, bytes_cmp, value_cmp, field_cmp, body_cmp, content_cmp, CellValue, Contents, IsContents, as_entries, set_of, union, Stamp, cell_joined}
 use Rattle.pn_record.specs.Showing.{shown_value}

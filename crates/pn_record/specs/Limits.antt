@@ -5,7 +5,7 @@ use Rattle.std.specs.FinMap.{is_sorted}
 use Rattle.std.specs.Ordering.{nat_cmp}
 use Rattle.std.specs.Cmp.Lexicographic.{slice_cmp}
 pub use Rattle.pn_line.specs.Line.{max_line_bytes}
-use Rattle.pn_join.specs.Marks.{is_name}
+use Rattle.pn_join.specs.Naming.{is_name}
 use Rattle.pn_record.specs.declared.version.TheConstants.{MAX_VERSION_NUMBER, MAX_KEY_BYTES, MAX_FIELD_NAME_BYTES, MAX_TEXT_BYTES, NUMBER_BYTES, MAX_FIELDS, MAX_FIELD_BYTES}
 
 -- The limits of versions, keys and fields.

@@ -2,7 +2,8 @@
 use Rattle.std.specs.Prelude.{◌≡◌, ℕ, Bool, true, not, ◌&&◌, if◌then◌else◌, List, [], ◌∷◌, unwrap_or, is_some, IsTrue, Result, Ok, Err}
 use Rattle.std.specs.Option.{ok_or}
 use Rattle.std.specs.List.{list_all}
-use Rattle.pn_join.specs.Marks.{is_name, Positions, is_position}
+use Rattle.pn_join.specs.Naming.{is_name}
+use Rattle.pn_join.specs.Marks.{Positions, is_position}
 use Rattle.serde_json.specs.Data.{Data, number, object, unsigned, Members, no_members, member}
 use Rattle.serde_json.specs.Find.{as_object}
 use Rattle.pn_json.specs.Answers.{◌>>=◌}

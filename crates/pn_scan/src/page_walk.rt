@@ -44,11 +44,9 @@ pub struct PageWalk {
 }
 
 impl Model for PageWalk {
-    ghost use Rattle.pn_scan.specs.WalkValues.{PageWalkValue};
+    ghost use Rattle.pn_scan.specs.WalkValues.{PageWalkValue, page_walk_code};
 
     ghost Value = { PageWalkValue };
-
-    ghost use Rattle.pn_scan.specs.WalkValues.{page_walk_code};
 
     ghost coded = { page_walk_code };
 

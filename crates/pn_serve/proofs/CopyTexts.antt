@@ -11,7 +11,8 @@ use Rattle.pn_line.specs.declared.reading.BoundedEnd.TheVariants.{EndOfInput, Ne
 use Rattle.pn_line.proofs.TextLaws.{ReadsPart, ReadsPart-from_takes, text_of-read_end, text_of-nil, text_of-push}
 use Rattle.pn_line.proofs.LineLaws.{kept_bytes-short}
 use Rattle.pn_line.specs.Text.{text_of}
-use Rattle.pn_join.specs.Marks.{Positions, is_position, are_positions, is_name}
+use Rattle.pn_join.specs.Marks.{Positions, is_position, are_positions}
+use Rattle.pn_join.specs.Naming.{is_name}
 use Rattle.pn_record.specs.declared.records.Image.{Image}
 use Rattle.pn_record.specs.Cells.{Entries, table_of}
 use Rattle.pn_tablet.specs.CopyReading.{copy_at}

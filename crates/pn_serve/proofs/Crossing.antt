@@ -6,8 +6,8 @@ use denote.Param.SendFields.{declared_send, variants_send}
 use denote.Struct.Record.{declared}
 use Rattle.std.proofs.Crossing.{crosses}
 use Rattle.pn_apply.proofs.Crossing.{share_send}
-use Rattle.pn_live.proofs.Crossing.{cell_send, key_send, record_table_send, mark_table_send}
-use Rattle.pn_join.specs.contracts.marks.name.Name as name
+use Rattle.pn_record.proofs.Crossing.{cell_send, key_send, mark_table_send, record_table_send}
+pub use Rattle.pn_record.proofs.Crossing.{name_send}
 use Rattle.pn_tablet.specs.contracts.copy.TabletCopy as copy
 use Rattle.pn_tablet.specs.contracts.copy_text.CopyText as copy_text
 use Rattle.pn_scan.specs.contracts.view.Row as row
@@ -32,12 +32,6 @@ use Rattle.pn_serve.specs.contracts.server.held_report.KeptReport as kept_report
 use Rattle.pn_serve.specs.contracts.server.mailboxes.Mailbox as mailbox
 use Rattle.pn_serve.specs.declared.server.publishers.Sending as sending
 use Rattle.pn_serve.specs.contracts.server.reports.Reporter as reporter
-
-pub name_send : IsSend name.the_row
-name_send = search (sendable, crosses) depth 40
-
-pub name_sync : IsSync name.the_row
-name_sync = search (sendable, crosses) depth 40
 
 copy_send : IsSend copy.the_row
 copy_send = search (sendable, crosses, key_send, record_table_send, mark_table_send) depth 40 fits 20000

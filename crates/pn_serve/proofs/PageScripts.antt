@@ -7,8 +7,7 @@ use Rattle.std.specs.Ordering.{eq_by_cmp}
 use Rattle.std.proofs.lemmas.Bool.{and_parts}
 use Rattle.std.proofs.lemmas.Bool.Decides.{nat_tests}
 use Rattle.std.proofs.lemmas.List.{take-append-drop}
-use Rattle.pn_join.proofs.Indices.{not_found_below}
-use Rattle.pn_join.proofs.Rising.{Rising, Rising-from_sorted}
+use Rattle.pn_join.proofs.Rising.{not_found_below, Rising, Rising-from_sorted}
 use Rattle.pn_json.specs.Tokens.{line_of}
 use Rattle.pn_record.specs.Cells.{Entries}
 use Rattle.pn_record.specs.Sets.{bytes_cmp, CellValue}

@@ -124,11 +124,11 @@ pub fn serve_opened<R, L, S, W, M>(
     out: &mut W,
 ) -> Result<(), ServeFault>
 where
-    R: Threads + Wait + Clock + Sync + Copy + Send + 'static,
-    L: Acceptor + Drop + Send + 'static,
-    S: Source + Drop + Send + 'static,
-    W: Sink,
     M: Sending + Send + 'static,
+    W: Sink,
+    S: Source + Drop + Send + 'static,
+    L: Acceptor + Drop + Send + 'static,
+    R: Threads + Wait + Clock + Sync + Copy + Send + 'static,
     requires workers { (1 ≤ workers) × (workers ≤ MAX_WORKERS) }
     requires own { AllRead (tablets_in opened.live) opened.readers.items }
     requires sent { M.known → All (IsOfPublisher M.sends S.left) streams.items }

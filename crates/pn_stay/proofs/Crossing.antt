@@ -3,8 +3,9 @@ use denote.Param.Send.{IsSend, IsSync, sendable}
 use denote.Param.SendFields.{declared_send}
 use denote.Struct.Record.{declared}
 use Rattle.std.proofs.Crossing.{crosses}
+use Rattle.pn_record.proofs.Crossing.{name_send, name_sync}
 use Rattle.pn_live.proofs.Crossing.{reader_send}
-use Rattle.pn_serve.proofs.Crossing.{controls_send, controls_sync, counter_send, counter_sync, faults_send, faults_sync, name_send, name_sync, shown_mark_send, shown_mark_sync}
+use Rattle.pn_serve.proofs.Crossing.{controls_send, controls_sync, counter_send, counter_sync, faults_send, faults_sync, shown_mark_send, shown_mark_sync}
 use Rattle.pn_stay.specs.contracts.acceptor.SocketAcceptor as acceptor
 use Rattle.pn_stay.specs.contracts.socket_mailbox.SocketMailbox as mailbox
 use Rattle.pn_stay.specs.contracts.server.threads.LoopThread as loop

@@ -1,9 +1,9 @@
 //! The laws of servers that stay, as contracts of functions that do nothing.
 
-ghost use Rattle.std.specs.Prelude.{◌≡◌, ℕ, List, [], None, Option, Some, IfOk, IfSome, map};
 ghost use Rattle.pn_lines.specs.Driving.{start_at};
 ghost use Rattle.pn_lines.specs.Engines.{EngineValue};
 ghost use Rattle.pn_lines.specs.Turns.{Finishes};
+ghost use Rattle.std.specs.Prelude.{◌≡◌, ℕ, List, [], None, Option, Some, IfOk, IfSome, map};
 ghost use Rattle.pn_stay.specs.Fakes.{bytes_of};
 ghost use Rattle.pn_live.specs.PublishedTablets.{AreHonestTablets};
 ghost use Rattle.pn_live.specs.LiveRegions.{LiveRegionValue, core};

@@ -2,7 +2,8 @@
 use Rattle.std.proofs.Common.{◌≡◌, ℕ, List, IsTrue, suc, ◌≤◌, length, Bool, true, false, not, cond, [], ◌∷◌, map, filter, Option, Some, None, refl, sym, ap, ◌∙◌, subst, arith, ◌≢◌, option_map}
 use Rattle.std.specs.FinMap.{find, is_sorted}
 use Rattle.std.specs.List.{AllByRecursion, filter_map, cons_option, AllZip}
-use Rattle.pn_join.specs.Tables.{optional_joined, Changes, AreChanges, those_there}
+use Rattle.pn_join.specs.Tables.{optional_joined}
+use Rattle.pn_join.specs.TableChanges.{Changes, those_there, AreChanges}
 use Rattle.pn_join.specs.declared.table.change.TableChange.{TableChange}
 use Rattle.pn_record.specs.Sets.{bytes_cmp, cell_joined, CellValue, Stamp, HasContents}
 use Rattle.pn_record.specs.Cells.{Entries, same_at}

@@ -9,7 +9,8 @@ use Rattle.std.specs.List.{list_all, sum_by}
 use Rattle.json.specs.Print.{escape_byte, escape_letter, escape, quoted}
 use Rattle.serde_json.specs.Data.{Data, null, boolean, number, string, array, object, unsigned, negative, float, Items, no_items, item, Members, no_members, member}
 use Rattle.serde_json.specs.Written.{compact_text, items_text, members_text, comma_if}
-use Rattle.pn_join.specs.Marks.{is_position, is_name, is_name_byte}
+use Rattle.pn_join.specs.Marks.{is_position}
+use Rattle.pn_join.specs.Naming.{is_name, is_name_byte}
 use Rattle.pn_join.specs.declared.marks.TheConstants.{LAST_POSITION}
 use Rattle.pn_line.specs.Line.{IsUnbroken}
 use Rattle.pn_record.specs.Limits.{field_size, fields_fit, names_rise, is_body, Field, is_field, is_version}

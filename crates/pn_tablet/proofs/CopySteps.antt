@@ -7,7 +7,8 @@ use Rattle.std.proofs.lemmas.List.Elements.{All-head, All-tail, All-from_get_or}
 use Rattle.memchr.specs.Find.{IsFirstByte, is_byte}
 use Rattle.pn_line.specs.Line.{IsUnbroken}
 use Rattle.pn_line.specs.Text.{text_of, onto_first}
-use Rattle.pn_join.specs.Marks.{is_position, is_name}
+use Rattle.pn_join.specs.Marks.{is_position}
+use Rattle.pn_join.specs.Naming.{is_name}
 use Rattle.pn_json.specs.Answers.{◌>>=◌, IsUnless}
 use Rattle.pn_tablet.specs.CopyReading.{pieces_of, is_over, after, read_on, copy_in, copy_at, head_at, line_at}
 use Rattle.pn_tablet.specs.CopyTexts.{is_memory, Head}

@@ -20,7 +20,7 @@ use Rattle.pn_record.specs.Limits.{fields_fit, names_rise, is_body, is_content, 
 use Rattle.pn_record.specs.Reading.{is_image, reading}
 use Rattle.pn_record.specs.Writing.{value_data, version_data, fields_data, body_data, image_data}
 use Rattle.pn_record.proofs.ShapeParts.{field_value, of_json-value}
-use Rattle.pn_join.specs.Marks.{is_name}
+use Rattle.pn_join.specs.Naming.{is_name}
 use Rattle.pn_tablet.specs.CopyTexts.{head_data, mark_data, end_data, form_number}
 use Rattle.pn_tablet.specs.CopyWriting.{IsReadAgain}
 use Rattle.pn_tablet.specs.declared.copy.Form.{Form}

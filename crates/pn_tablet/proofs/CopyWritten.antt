@@ -14,7 +14,8 @@ use Rattle.serde_json.specs.Read.{read}
 use Rattle.serde_json.specs.Written.{compact_text}
 use Rattle.json.specs.Written.{Written}
 use Rattle.pn_json.specs.Tokens.{Appends, value_tokens}
-use Rattle.pn_join.specs.Marks.{Positions, is_position, name_cmp, is_name}
+use Rattle.pn_join.specs.Marks.{Positions, is_position, name_cmp}
+use Rattle.pn_join.specs.Naming.{is_name}
 use Rattle.pn_line.specs.Line.{IsUnbroken}
 use Rattle.pn_line.specs.Text.{text_of}
 use Rattle.pn_record.specs.declared.records.Image.{Image}

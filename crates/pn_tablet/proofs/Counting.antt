@@ -1,19 +1,19 @@
 -- How many cells are deleted once a join's changes are put, and what is weighed one by one.
 use Rattle.std.proofs.Common.{◌≡◌, ℕ, ◌+◌, ◌<◌, ◌≤◌, List, get_or, length, take, map, sym, ap, ◌∙◌, arith, suc, Bool, true, false, not, cond, T, [], ◌∷◌, count_by, Option, Some, None, Less, Equal, Greater, is_eq, refl, subst}
-use Rattle.std.specs.List.{sum_by, AllByRecursion, AllZip}
+use Rattle.std.specs.List.{sum_by, AllZip}
 use Rattle.std.proofs.lemmas.List.{get_or-map, length-map, take_all}
 use Rattle.std.proofs.lemmas.List.Sums.{sum_by_more, sum_by-cons, count_by-le-length}
 use Rattle.std.specs.FinMap.{find, put, is_sorted}
 use Rattle.std.specs.FinMap.Entries.{by_order, find-put, same_entries}
 use Rattle.std.proofs.lemmas.Cmp.{nat_list_cmp_total}
 use Rattle.std.proofs.lemmas.Map.Lookups.{exact_bytes}
-use Rattle.pn_join.specs.Tables.{Changes, AreChanges, AreValid, those_there, puts, IsTable, optional_joined}
+use Rattle.pn_join.specs.TableChanges.{Changes, AreChanges, AreValid, those_there, puts}
+use Rattle.pn_join.specs.Tables.{IsTable, optional_joined}
 use Rattle.pn_join.specs.declared.table.change.TableChange.{TableChange}
 use Rattle.pn_join.proofs.Changing.{puts_joined, valid_changes}
 use Rattle.pn_join.proofs.Puts.{IsTable-put}
-use Rattle.pn_join.proofs.Rising.{Below, Rising, Rising-from_sorted, flipped}
+use Rattle.pn_join.proofs.Rising.{Below, Rising, Rising-from_sorted}
 use Rattle.pn_record.specs.Cells.{Entries}
-use Rattle.pn_record.specs.Laws.{cell_joined-laws}
 use Rattle.pn_record.specs.Sets.{bytes_cmp, CellValue, HasContents, cell_joined}
 use Rattle.pn_record.proofs.CellMaps.{find-joined}
 use Rattle.pn_tablet.specs.Tablets.{is_deleted, was_deleted, deleted_in}
@@ -106,52 +106,50 @@ put_counted key cell (e ∷ es) rising =
           (put_counted key cell es rising.1) (first_counted e (put bytes_cmp key cell es)) (first_counted e es)
     ] refl
 
--- what a table has at the keys of entries is what another has there
-abbrev SameAt : Entries → Entries → Entries → Type 0
-SameAt old now es = AllByRecursion (λ e. find bytes_cmp e.0 now ≡ find bytes_cmp e.0 old) es
-
-same_itself : (old es : Entries) → SameAt old old es
-same_itself old [] = tt
-same_itself old (e ∷ es) = (refl, same_itself old es)
-
--- a put alters nothing at greater keys
-same_later : (key : List ℕ) (cell : CellValue) (old now es : Entries) → Below bytes_cmp key es → SameAt old now es → SameAt old (put bytes_cmp key cell now) es
-same_later key cell old now [] below same = tt
-same_later key cell old now (e ∷ es) below same = (
-  find-put bytes_cmp nat_list_cmp_total e.0 key cell now
-      ∙ ap (λ r. cond (is_eq r) (Some cell) (find bytes_cmp e.0 now)) (flipped nat_list_cmp_total key e.0 below.0)
-      ∙ same.0,
-  same_later key cell old now es below.1 same.1,
-)
-
 abbrev Each : Entries → Entries → List (Option (TableChange (List ℕ) CellValue)) → Type 0
 Each old es made = AllZip (Changes bytes_cmp (λ cell. cell) cell_joined HasContents old) es made
 
-one_change : (w c g k n before after x y : ℕ) → w + after ≡ c + before → g + n ≡ k + after → x ≡ w + g → y ≡ c + k → x + n ≡ y + before
+-- changes alter nothing at a lesser key
+puts_above : (key : List ℕ) (old es : Entries) (made : List (Option (TableChange (List ℕ) CellValue))) → Below bytes_cmp key es → Each old es made
+    → find bytes_cmp key (puts bytes_cmp old (those_there made)) ≡ find bytes_cmp key old
+puts_above key old [] [] below all = refl
+puts_above key old [] (m ∷ ms) below all = absurd all
+puts_above key old (e ∷ es) [] below all = absurd all
+puts_above key old (e ∷ es) (None ∷ ms) below all = puts_above key old es ms below.1 all.1
+puts_above key old (e ∷ es) (Some change ∷ ms) below all =
+    let others : Entries = puts bytes_cmp old (those_there ms) in
+    find-put bytes_cmp nat_list_cmp_total key change.key change.after others
+    ∙ ap (λ r. cond (is_eq r) (Some change.after) (find bytes_cmp key others)) (ap (λ (other : List ℕ). bytes_cmp key other) all.0.key ∙ below.0)
+    ∙ puts_above key old es ms below.1 all.1
+
+puts_table : (old : Entries) (table_changes : ReturnedChanges) → IsTable bytes_cmp HasContents old → AreValid HasContents table_changes → IsTable bytes_cmp HasContents (puts bytes_cmp old table_changes)
+puts_table old [] table valid = table
+puts_table old (change ∷ table_changes) table valid =
+    IsTable-put bytes_cmp nat_list_cmp_total HasContents change.key change.after (puts bytes_cmp old table_changes) valid.0 (puts_table old table_changes table valid.1)
+
+one_change : (w c g k n before after x y : ℕ) → w + n ≡ c + after → g + after ≡ k + before → x ≡ w + g → y ≡ c + k → x + n ≡ y + before
 one_change w c g k n before after x y s t p q = omega arith
 
 -- the changes that bring a deleted cell and those that take one away are all that the count changes by
-puts_counted : (old now es : Entries) (made : List (Option (TableChange (List ℕ) CellValue))) → IsTable bytes_cmp HasContents now → Rising bytes_cmp es → SameAt old now es → Each old es made
-    → gone (those_there made) + deleted_in (puts bytes_cmp now (those_there made)) ≡ come (those_there made) + deleted_in now
-puts_counted old now [] [] table rising same all = refl
-puts_counted old now [] (m ∷ ms) table rising same all = absurd all
-puts_counted old now (e ∷ es) [] table rising same all = absurd all
-puts_counted old now (e ∷ es) (None ∷ ms) table rising same all = puts_counted old now es ms table rising.1 same.1 all.1
-puts_counted old now (e ∷ es) (Some change ∷ ms) table rising same all =
-    let next : Entries = put bytes_cmp change.key change.after now in
+puts_counted : (old es : Entries) (made : List (Option (TableChange (List ℕ) CellValue))) → IsTable bytes_cmp HasContents old → Rising bytes_cmp es → Each old es made
+    → gone (those_there made) + deleted_in (puts bytes_cmp old (those_there made)) ≡ come (those_there made) + deleted_in old
+puts_counted old [] [] table rising all = refl
+puts_counted old [] (m ∷ ms) table rising all = absurd all
+puts_counted old (e ∷ es) [] table rising all = absurd all
+puts_counted old (e ∷ es) (None ∷ ms) table rising all = puts_counted old es ms table rising.1 all.1
+puts_counted old (e ∷ es) (Some change ∷ ms) table rising all =
     let table_changes : ReturnedChanges = those_there ms in
-    let before : find bytes_cmp change.key now ≡ change.before = ap (λ (key : List ℕ). find bytes_cmp key now) all.0.key ∙ same.0 ∙ sym all.0.before in
+    let others : Entries = puts bytes_cmp old table_changes in
+    let put_last : Entries = put bytes_cmp change.key change.after others in
     let below : Below bytes_cmp change.key es = subst (λ (key : List ℕ). Below bytes_cmp key es) (sym all.0.key) rising.0 in
-    one_change (one (was_deleted change.before)) (one (is_deleted change.after)) (gone table_changes) (come table_changes) (deleted_in (puts bytes_cmp next table_changes)) (deleted_in now) (deleted_in next) (gone (change ∷ table_changes)) (come (change ∷ table_changes))
-    (subst (λ (o : Option CellValue). one (was_deleted o) + deleted_in next ≡ one (is_deleted change.after) + deleted_in now) before (put_counted change.key change.after now (Rising-from_sorted bytes_cmp now table.rising)))
-    (puts_counted old next es ms (IsTable-put bytes_cmp nat_list_cmp_total HasContents change.key change.after now all.0.is_valid table) rising.1 (same_later change.key change.after old now es below same.1) all.1)
+    let before : find bytes_cmp change.key others ≡ change.before = puts_above change.key old es ms below all.1 ∙ ap (λ (key : List ℕ). find bytes_cmp key old) all.0.key ∙ sym all.0.before in
+    let valid : AreValid HasContents table_changes = valid_changes bytes_cmp (λ cell. cell) cell_joined HasContents old es ms all.1 in
+    let rise : Rising bytes_cmp others = Rising-from_sorted bytes_cmp others (puts_table old table_changes table valid).rising in
+    one_change (one (was_deleted change.before)) (one (is_deleted change.after)) (gone table_changes) (come table_changes) (deleted_in put_last) (deleted_in old) (deleted_in others) (gone (change ∷ table_changes)) (come (change ∷ table_changes))
+    (subst (λ (o : Option CellValue). one (was_deleted o) + deleted_in put_last ≡ one (is_deleted change.after) + deleted_in others) before (put_counted change.key change.after others rise))
+    (puts_counted old es ms table rising.1 all.1)
     (sum_by-cons (λ (c : TableChange (List ℕ) CellValue). one (was_deleted c.before)) change table_changes)
     (sum_by-cons (λ (c : TableChange (List ℕ) CellValue). one (is_deleted c.after)) change table_changes)
-
-puts_table : (now : Entries) (table_changes : ReturnedChanges) → IsTable bytes_cmp HasContents now → AreValid HasContents table_changes → IsTable bytes_cmp HasContents (puts bytes_cmp now table_changes)
-puts_table now [] table valid = table
-puts_table now (change ∷ table_changes) table valid =
-    puts_table (put bytes_cmp change.key change.after now) table_changes (IsTable-put bytes_cmp nat_list_cmp_total HasContents change.key change.after now valid.0 table) valid.1
 
 -- a join changes the count by what its changes bring and take away
 pub joined_count : (old more new : Entries) (table_changes : ReturnedChanges) → IsTable bytes_cmp HasContents old → IsTable bytes_cmp HasContents more
@@ -163,7 +161,7 @@ joined_count old more new table_changes table others are rising joined =
     let valid : AreValid HasContents table_changes = subst (AreValid HasContents) (sym are.are) (valid_changes bytes_cmp (λ cell. cell) cell_joined HasContents old more are.made are.each) in
     let is : new ≡ puts bytes_cmp old table_changes =
     same_entries bytes_cmp nat_list_cmp_total exact_bytes new (puts bytes_cmp old table_changes) (subst T (sym rising) tt) (subst T (sym (puts_table old table_changes table valid).rising) tt)
-    (λ q. joined q ∙ sym (find-joined old more (puts bytes_cmp old table_changes) (puts_joined bytes_cmp nat_list_cmp_total (λ cell. cell) cell_joined cell_joined-laws HasContents old more table_changes others are) q)) in
+    (λ q. joined q ∙ sym (find-joined old more (puts bytes_cmp old table_changes) (puts_joined bytes_cmp nat_list_cmp_total (λ cell. cell) cell_joined HasContents old more table_changes others are) q)) in
     subst (λ (es : Entries). gone table_changes + deleted_in es ≡ come table_changes + deleted_in old) (sym is)
     (subst (λ (list : ReturnedChanges). gone list + deleted_in (puts bytes_cmp old list) ≡ come list + deleted_in old) (sym are.are)
-    (puts_counted old old more are.made table (Rising-from_sorted bytes_cmp more others.rising) (same_itself old more) are.each))
+    (puts_counted old more are.made table (Rising-from_sorted bytes_cmp more others.rising) are.each))

@@ -31,10 +31,10 @@ pub(crate) fn listen<R>(
 where
     R: AllocGlobal
         + Files<File = File>
-        + Net<Listener = TcpListener, Stream = TcpStream>
-        + Wait
         + Print
-        + Eprint,
+        + Eprint
+        + Net<Listener = TcpListener, Stream = TcpStream>
+        + Wait,
 {
     if files.reserve(SOCKETS).is_err() {
         return Err(fail(rt, "memory"));
@@ -72,10 +72,10 @@ fn listen_for_clients<R>(
 ) -> Result<Listener, ExitCode>
 where
     R: AllocGlobal
-        + Files<File = File>
-        + Net<Listener = TcpListener, Stream = TcpStream>
+        + Eprint
         + Wait
-        + Eprint,
+        + Files<File = File>
+        + Net<Listener = TcpListener, Stream = TcpStream>,
 {
     let is_explained = is_explained(service);
     match &service.address {

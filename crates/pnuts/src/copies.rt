@@ -1,9 +1,9 @@
 //! A region that starts from copies.
 
-ghost use Rattle.std.specs.Prelude.{◌≤◌, vec_len, IfOk, IfSome};
-ghost use Rattle.pn_live.specs.Prelude.{tablets_in};
 ghost use Rattle.pn_serve.specs.declared.server.session_threads.TheConstants.{MAX_SESSIONS};
 ghost use Rattle.pn_serve.specs.Server.Events.{AllRead};
+ghost use Rattle.pn_live.specs.Prelude.{tablets_in};
+ghost use Rattle.std.specs.Prelude.{◌≤◌, vec_len, IfOk, IfSome};
 
 use crate::failures::{fail, fail_at};
 use pn_arguments::Service;

@@ -152,11 +152,11 @@ pub(crate) fn open_acceptor<R>(
 ) -> Result<SocketAcceptor, ExitCode>
 where
     R: AllocGlobal
-        + Files<File = File>
-        + Net<Listener = TcpListener, Stream = TcpStream>
         + Wait
         + Print
-        + Eprint,
+        + Eprint
+        + Files<File = File>
+        + Net<Listener = TcpListener, Stream = TcpStream>,
 {
     let listeners = match listen(rt, service, &mut notes.sockets) {
         Ok(listeners) => listeners,

@@ -203,14 +203,14 @@ fn open_endpoints<R>(
 ) -> Result<Endpoints<R>, ExitCode>
 where
     R: AllocGlobal
-        + Files<File = File>
-        + Net<Listener = TcpListener, Stream = TcpStream>
+        + Copy
+        + Drop
+        + Clock
+        + Wait
         + Print
         + Eprint
-        + Wait
-        + Clock
-        + Copy
-        + Drop,
+        + Files<File = File>
+        + Net<Listener = TcpListener, Stream = TcpStream>,
 {
     let (streams, notes) = open_streams(rt, service, streams)?;
     let mut notes = notes;

@@ -36,16 +36,16 @@ pub(crate) fn serve_streams<R>(
 ) -> ExitCode
 where
     R: AllocGlobal
-        + Files<File = File>
-        + Print
-        + Eprint
-        + Threads
-        + Wait
-        + Clock
         + Sync
         + Copy
         + Send
-        + 'static,
+        + 'static
+        + Threads
+        + Wait
+        + Clock
+        + Files<File = File>
+        + Print
+        + Eprint,
     requires sessions { (1 ≤ service.now.sessions) × (service.now.sessions ≤ MAX_SESSIONS) }
     requires own { IfSome opened (λ region. AllRead (tablets_in region.live) region.readers.items) }
 {

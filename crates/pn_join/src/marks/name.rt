@@ -8,7 +8,7 @@ ghost use Rattle.std.specs.Cmp.{partial_order_from_own_ties};
 ghost use Rattle.std.specs.Cmp.Rules.{comparing};
 ghost use Rattle.std.specs.Cmp.Lexicographic.{slice_cmp};
 ghost use Rattle.std.proofs.Common.{rules};
-ghost use Rattle.pn_join.specs.Marks.{is_name, is_name as name_of, is_name_byte as name_byte};
+ghost use Rattle.pn_join.specs.Naming.{is_name, is_name as name_of, is_name_byte as name_byte};
 
 use crate::{Dup, NoMemory};
 use std::cmp::Ordering;
@@ -36,7 +36,7 @@ pub struct BadName;
 
 impl Model for Name {
     ghost use Rattle.std.specs.Prelude.{ℕ, List, take, length};
-    ghost use Rattle.pn_join.specs.Marks.{padded_name, HoldsName};
+    ghost use Rattle.pn_join.specs.Naming.{padded_name, HoldsName};
 
     ghost Value = { List ℕ };
 

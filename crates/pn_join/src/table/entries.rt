@@ -1,12 +1,11 @@
 //! The iterator over the entries of a table, in key order.
 
-ghost use Rattle.std.specs.Prelude.{◌≡◌, ◌++◌, length};
+ghost use Rattle.std.specs.Prelude.{◌≡◌, length, drop};
 ghost use Rattle.std.specs.Iterator.{at_most};
 ghost use Rattle.std.specs.Map.Iter.{TakesFirst, deref_pair};
-ghost use Rattle.pn_join.specs.Blocks.{entries_in};
+ghost use Rattle.pn_join.specs.NodeLeaves.{entries_in};
 
-use crate::table::block_entries::BlockEntries;
-use crate::table::block_ref::BlockRef;
+use crate::table::leaf_list::Root;
 use crate::{Dup, Join};
 use std::iter::FusedIterator;
 use std::marker::Model;
@@ -15,29 +14,32 @@ use std::slice;
 /// The entries of a table that are left, in key order.
 #[derive(Drop)]
 pub struct Entries<'t, K: Ord + Dup, C: Join> {
-    left: BlockEntries<'t, K, C>,
-    blocks: slice::Iter<'t, BlockRef<K, C>>,
+    left: slice::Iter<'t, (K, C)>,
+    root: &'t Root<K, C>,
+    // How many entries come before those that follow `left`.
+    next: usize,
 }
 
 impl<'t, K: Ord + Dup, C: Join> Model for Entries<'t, K, C> {
-    ghost use Rattle.std.specs.Prelude.{List, ◌++◌};
+    ghost use Rattle.std.specs.Prelude.{List, ◌++◌, drop};
     ghost use Rattle.std.specs.Slice.Iter.{iter_rest};
 
     ghost Value = { List (K × C) };
 
-    ghost use Rattle.pn_join.specs.Blocks.{entries_in};
+    ghost use Rattle.pn_join.specs.NodeLeaves.{entries_in};
 
-    ghost view = { λ entries. entries.left ++ entries_in (iter_rest entries.blocks) };
+    ghost view = { λ entries. iter_rest entries.left ++ drop entries.next (entries_in entries.root.now) };
 }
 
 impl<'t, K: Ord + Dup, C: Join> Entries<'t, K, C> {
-    /// These entries, and then those of the blocks.
-    pub(crate) fn new(left: BlockEntries<'t, K, C>, blocks: &'t [BlockRef<K, C>]) -> Self
-        ensures { result ≡ left.entry ++ entries_in blocks.now }
+    /// The entries from an index on.
+    pub(crate) fn new(root: &'t Root<K, C>, index: usize) -> Self
+        ensures { result ≡ drop index (entries_in root.now) }
     {
         Entries {
-            left,
-            blocks: blocks.iter(),
+            left: [].iter(),
+            root,
+            next: index,
         }
     }
 }
@@ -54,7 +56,12 @@ impl<'t, K: Ord + Dup, C: Join> Iterator for Entries<'t, K, C> {
             if let Some((key, content)) = self.left.next() {
                 return Some((key, content));
             }
-            self.left = self.blocks.next()?.block().iter();
+            let more = self.root.rest_of_leaf(self.next);
+            if more.is_empty() {
+                return None;
+            }
+            self.next += more.len();
+            self.left = more.iter();
         }
     }
 }

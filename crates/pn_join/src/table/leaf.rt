@@ -1,54 +1,149 @@
-//! Leaves: short lists of entries that copies of a table share.
+//! Leaves: short vectors of entries.
 
-ghost use Rattle.std.specs.Prelude.{◌≡◌, ◌≤◌, length, IfOk, OnOk, OnErr};
-ghost use Rattle.pn_join.specs.Edits.{IsReady};
-ghost use Rattle.pn_join.specs.Leaves.{leaf_entries, leaves_of, begins_below, ends_below};
+ghost use Rattle.std.specs.Prelude.{◌≡◌, ◌<◌, ◌≤◌, [], ◌++◌, length, reverse, option_map, unwrap_or, slice_get, IsTrue, IfOk, IfSome};
+ghost use Rattle.std.specs.Option.{option_copied};
+ghost use Rattle.std.specs.FinMap.{find, is_sorted};
+ghost use Rattle.pn_join.specs.Indices.{index_of};
+ghost use Rattle.pn_join.specs.Leaves.{ends_below};
+ghost use Rattle.pn_join.specs.Nodes.{leaf_of};
 
-use crate::table::leaf_join::MAX_LEAF_ENTRIES;
-use crate::{Dup, NoMemory};
+use crate::table::counts::Sizes;
+use crate::table::edit::Edit;
+use crate::table::leaf_join::{
+    MAX_LEAF_ENTRIES, binary_search, halve_if_long, join_one, move_from,
+};
+use crate::table::node::{Node, Opening};
+use crate::table::open_leaf::{OpenLeaf, open_leaf};
+use crate::{Dup, Join, NoMemory};
 use std::alloc::Global;
 use std::mem;
-use std::sync::Arc;
 
-/// Leaves with fewer entries are copied rather than shared: copying is as fast.
+/// Leaves with fewer entries are copied rather than shared.
 const FEWEST_SHARED: usize = 16;
 
-/// Some of a table's entries. A shared leaf is never changed.
-#[derive(Drop)]
-pub enum Leaf<K, C> {
-    Own(Vec<(K, C)>),
-    Shared(Arc<Vec<(K, C)>>),
-}
+impl<K: Ord + Dup, C: Join> Node<K, C> for Vec<(K, C)> {
+    ghost use Rattle.std.specs.Prelude.{length, ◌+◌, ◌≤◌};
+    ghost use Rattle.pn_join.specs.Leaves.{all_entries};
+    ghost use Rattle.pn_join.specs.Nodes.{leaf_of};
+    ghost use Rattle.pn_join.specs.declared.table.leaf_join.TheConstants.{MAX_LEAF_ENTRIES};
 
-impl<K, C> Leaf<K, C> {
-    /// The entries of the leaf.
-    pub fn entries(&self) -> &[(K, C)]
-        ensures { result.now ≡ leaf_entries self.now }
-    {
-        match self {
-            Leaf::Own(entries) => entries,
-            Leaf::Shared(entries) => entries,
+    type Open = OpenLeaf<K, C>;
+
+    ghost leaves = { λ leaf. leaf_of leaf.items };
+
+    ghost was = { λ opened. leaf_of opened.0 };
+
+    ghost becomes = { λ opened. opened.1 };
+
+    ghost has_room = { λ leaf other. length (all_entries leaf) + length (all_entries other) ≤ MAX_LEAF_ENTRIES };
+
+    fn none(alloc: Global) -> Self {
+        Vec::new(alloc)
+    }
+
+    fn is_short(&self) -> bool {
+        self.len() < FEWEST_SHARED
+    }
+
+    fn copy(&self) -> Result<Self, NoMemory> {
+        let capacity = if self.is_short() { 0 } else { MAX_LEAF_ENTRIES };
+        copy_entries(*self.allocator(), capacity, self)
+    }
+
+    fn sizes(&self) -> Sizes {
+        let entries = self.len();
+        Sizes {
+            entries,
+            leaves: entries.min(1),
         }
     }
-}
 
-impl<K: Ord, C> Leaf<K, C> {
-    /// Whether its last key is less than this one.
-    pub fn ends_below(&self, key: &K) -> bool
-        ensures { result ≡ ends_below K.cmp key.now (leaf_entries self.now) }
-    {
-        is_last_below(self.entries(), key)
+    fn last_key(&self) -> Option<&K> {
+        let (last, _) = self.last()?;
+        Some(last)
+    }
+
+    fn find(&self, key: &K) -> (Result<usize, usize>, Option<&C>) {
+        find_in(self, key)
+    }
+
+    fn entries_from(&self, index: usize) -> &[(K, C)] {
+        self.get(index..).unwrap_or_default()
+    }
+
+    fn leaf(&self, index: usize) -> Option<&[(K, C)]> {
+        if index > 0 || self.is_empty() {
+            return None;
+        }
+        Some(self)
+    }
+
+    fn slice(&self, from: usize, to: usize) -> Result<Self, NoMemory> {
+        copy_entries(*self.allocator(), 0, &self[from..to])
+    }
+
+    fn of_next(alloc: Global, left: &mut Vec<(K, C)>) -> Result<Self, NoMemory> {
+        take_leaf(alloc, left)
+    }
+
+    fn has_room_for(&self, other: &Self) -> bool {
+        self.len().saturating_add(other.len()) <= MAX_LEAF_ENTRIES
+    }
+
+    fn append(&mut self, mut other: Self) -> Result<(), NoMemory> {
+        Ok(Vec::append(self, &mut other)?)
+    }
+
+    fn join_at(
+        &mut self,
+        index: Result<usize, usize>,
+        key: K,
+        content: C,
+    ) -> Result<Option<Self>, NoMemory> {
+        let capacity = if self.len() < MAX_LEAF_ENTRIES {
+            0
+        } else {
+            MAX_LEAF_ENTRIES / 2 + 1
+        };
+        let mut back = Vec::with_capacity(*self.allocator(), capacity)?;
+        join_one(self, index, key, content)?;
+        halve_if_long(self, &mut back);
+        Ok(if_some(back))
+    }
+
+    fn open(self, edits: &mut Vec<Edit<K, C>>, start: usize) -> Opening<Self, OpenLeaf<K, C>> {
+        open_leaf(self, edits, start)
+    }
+
+    fn finish(opened: OpenLeaf<K, C>) -> (Self, Option<Self>) {
+        let (front, back) = opened.finish();
+        (front, if_some(back))
+    }
+
+    fn cancel(opened: OpenLeaf<K, C>) -> Self {
+        opened.cancel()
     }
 }
 
-/// Whether the first key is less than this one.
-pub fn is_first_below<K: Ord, C>(entries: &[(K, C)], key: &K) -> bool
-    ensures { result ≡ begins_below K.cmp key.now entries.now }
+/// The index of a key in a leaf, and the content at the key.
+fn find_in<'l, K: Ord, C>(entries: &'l [(K, C)], key: &K) -> (Result<usize, usize>, Option<&'l C>)
+    requires { IsTrue (is_sorted K.cmp entries.now) }
+    ensures index { result.0 ≡ index_of K.cmp key.now entries.now }
+    ensures found { option_copied result.1 ≡ find K.cmp key.now entries.now }
 {
-    match entries.first() {
-        Some((first, _)) => first.cmp(key).is_lt(),
-        None => false,
+    let index = binary_search(entries, key);
+    match index {
+        Ok(place) => (index, content_of(entries, place)),
+        Err(_) => (index, None),
     }
+}
+
+/// The content of an entry.
+fn content_of<K, C>(entries: &[(K, C)], index: usize) -> Option<&C>
+    ensures { option_copied result ≡ option_map (λ e. e.1) (slice_get entries.now index) }
+{
+    let (_, content) = entries.get(index)?;
+    Some(content)
 }
 
 /// Whether the last key is less than this one.
@@ -61,69 +156,15 @@ pub fn is_last_below<K: Ord, C>(entries: &[(K, C)], key: &K) -> bool
     }
 }
 
-impl<K: Dup, C: Dup> Leaf<K, C> {
-    /// Takes the entries out. Shared ones are copied, with the capacity of a full leaf; an error leaves them in.
-    pub fn take(&mut self, alloc: Global) -> Result<Vec<(K, C)>, NoMemory>
-        ensures ok { IfOk result (λ entries. entries.items ≡ leaf_entries self.old) }
-        ensures err { OnErr result (leaf_entries self.new ≡ leaf_entries self.old) }
-    {
-        match mem::replace(self, Leaf::Own(Vec::new(alloc))) {
-            Leaf::Own(entries) => Ok(entries),
-            Leaf::Shared(shared) => match Arc::try_unwrap(shared) {
-                Ok(entries) => Ok(entries),
-                Err(shared) => {
-                    let copy = copy_entries(alloc, MAX_LEAF_ENTRIES, &shared);
-                    *self = Leaf::Shared(shared);
-                    copy
-                }
-            },
-        }
+/// The leaf, if it has entries.
+fn if_some<T: Drop>(leaf: Vec<T>) -> Option<Vec<T>>
+    ensures leaf { unwrap_or (option_map (λ l. leaf_of l.items) result) [] ≡ leaf_of leaf.items }
+    ensures some { IfSome result (λ l. 0 < length l.items) }
+{
+    if leaf.is_empty() {
+        return None;
     }
-
-    /// Makes it unshared, with the capacity of a full leaf. Its entries stay the same, also on an error.
-    pub fn open(&mut self, alloc: Global) -> Result<(), NoMemory>
-        requires { length (leaf_entries self.old) ≤ MAX_LEAF_ENTRIES }
-        ensures same { leaf_entries self.new ≡ leaf_entries self.old }
-        ensures ready { OnOk result (IsReady self.new) }
-    {
-        let mut entries = self.take(alloc)?;
-        let reserved = entries.reserve(MAX_LEAF_ENTRIES.saturating_sub(entries.len()));
-        *self = Leaf::Own(entries);
-        Ok(reserved?)
-    }
-
-    /// Makes it shareable, if there is memory for that.
-    pub fn close(&mut self, alloc: Global)
-        ensures { leaf_entries self.new ≡ leaf_entries self.old }
-    {
-        match mem::replace(self, Leaf::Own(Vec::new(alloc))) {
-            Leaf::Own(entries) => *self = Leaf::seal(alloc, entries),
-            Leaf::Shared(shared) => *self = Leaf::Shared(shared),
-        }
-    }
-
-    /// A leaf of these entries. It is shareable unless it is short or memory runs out.
-    pub fn seal(alloc: Global, entries: Vec<(K, C)>) -> Self
-        ensures { leaf_entries result ≡ entries.items }
-    {
-        if entries.len() < FEWEST_SHARED {
-            return Leaf::Own(entries);
-        }
-        match Arc::new(alloc, entries) {
-            Ok(shared) => Leaf::Shared(shared),
-            Err(refused) => Leaf::Own(refused.value),
-        }
-    }
-
-    /// A leaf of the same entries, shared if possible.
-    pub fn share(&self, alloc: Global) -> Result<Self, NoMemory>
-        ensures { IfOk result (λ copy. leaf_entries copy ≡ leaf_entries self.now) }
-    {
-        match self {
-            Leaf::Own(entries) => Ok(Leaf::Own(copy_entries(alloc, 0, entries)?)),
-            Leaf::Shared(entries) => Ok(Leaf::Shared(Arc::try_clone(entries)?)),
-        }
-    }
+    Some(leaf)
 }
 
 /// Copies the entries into a vector of at least this capacity.
@@ -150,16 +191,19 @@ fn prefetch<K: Dup, C: Dup>(entries: &[(K, C)]) {
     }
 }
 
-/// Leaves of the same entries, shared where possible.
-pub fn share_leaves<K: Dup, C: Dup>(
-    alloc: Global,
-    leaves: &[Leaf<K, C>],
-) -> Result<Vec<Leaf<K, C>>, NoMemory>
-    ensures { IfOk result (λ copy. leaves_of copy.items ≡ leaves_of leaves.now) }
+/// Takes the next entries of those that are left, of which the next is the last: as many as a leaf may have.
+fn take_leaf<T>(alloc: Global, left: &mut Vec<T>) -> Result<Vec<T>, NoMemory>
+    ensures parted { IfOk result (λ leaf. leaf.items ++ reverse left.new.items ≡ reverse left.old.items) }
+    ensures some { IfOk result (λ leaf. 0 < length left.old.items → 0 < length leaf.items) }
+    ensures size { IfOk result (λ leaf. length leaf.items ≤ MAX_LEAF_ENTRIES) }
 {
-    let mut copy = Vec::with_capacity(alloc, leaves.len())?;
-    for leaf in leaves {
-        copy.push_reserved(leaf.share(alloc)?);
+    if left.len() <= MAX_LEAF_ENTRIES {
+        let mut all = mem::replace(left, Vec::new(alloc));
+        all.reverse();
+        return Ok(all);
     }
-    Ok(copy)
+    let rest = left.len() - MAX_LEAF_ENTRIES;
+    let mut leaf = Vec::with_capacity(alloc, MAX_LEAF_ENTRIES)?;
+    move_from(left, rest, &mut leaf);
+    Ok(leaf)
 }

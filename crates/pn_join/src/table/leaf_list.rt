@@ -1,21 +1,33 @@
-//! Lists of leaves: the entries of a table, one leaf after another, in blocks.
+//! Lists of leaves: the entries of a table, one leaf after another, in rows of rows.
 
-ghost use Rattle.std.specs.Prelude.{◌≡◌, ◌≤◌, false, [], ◌++◌, length, drop, option_map, slice_get, slice_range, IsTrue, IfOk, IfSome, OnOk, OnErr};
+ghost use Rattle.std.specs.Prelude.{◌≡◌, ◌≤◌, false, [], ◌∷◌, ◌++◌, length, drop, option_map, slice_get, slice_range, IsTrue, IfOk, IfSome, OnOk, OnErr};
 ghost use Rattle.std.specs.FinMap.{find};
 ghost use Rattle.std.specs.Option.{option_copied};
-ghost use Rattle.pn_join.specs.Tables.{index_of, AreChanges, contents_at, key_by_key, IsTable};
-ghost use Rattle.pn_join.specs.Leaves.{all_entries, IsLeafList, IsPutOf, ChangesOneLeaf};
+ghost use Rattle.pn_join.specs.Indices.{index_of};
+ghost use Rattle.pn_join.specs.Leaves.{all_entries, IsLeafList};
+ghost use Rattle.pn_join.specs.PutInLeaves.{IsPutOf, ChangesOneLeaf};
+ghost use Rattle.pn_join.specs.TableChanges.{AreChanges};
+ghost use Rattle.pn_join.specs.Tables.{contents_at, key_by_key, IsTable};
 
-use crate::table::block_list::{BlockList, BulkJoin};
+use crate::table::bulk_join::{BulkJoin, edits_from, put_edits};
+use crate::table::edit::take_changes;
 use crate::table::entries::Entries;
+use crate::table::node::Node;
+use crate::table::row::Row;
 use crate::{Dup, Join, NoMemory};
 use std::alloc::Global;
 use std::marker::Model;
 
+/// The capacity that a table's first leaf begins with, in entries.
+const FIRST_CAPACITY: usize = 4;
+
+/// A row of rows of leaves. Larger tables would have one more row round these.
+pub type Root<K, C> = Row<K, C, Row<K, C, Vec<(K, C)>>>;
+
 /// The leaves of a table, in key order: 1 to 64 entries each, whose keys rise from leaf to leaf.
 #[derive(Drop)]
 pub struct LeafList<K: Ord + Dup, C: Join> {
-    blocks: BlockList<K, C>,
+    root: Root<K, C>,
 }
 
 impl<K: Ord + Dup, C: Join> Model for LeafList<K, C> {
@@ -25,7 +37,7 @@ impl<K: Ord + Dup, C: Join> Model for LeafList<K, C> {
 
     ghost use Rattle.pn_join.specs.Leaves.{all_entries};
 
-    ghost view = { λ leaf_list. all_entries leaf_list.blocks };
+    ghost view = { λ leaf_list. all_entries leaf_list.root };
 }
 
 impl<K: Ord + Dup, C: Join> LeafList<K, C> {
@@ -34,7 +46,7 @@ impl<K: Ord + Dup, C: Join> LeafList<K, C> {
         ensures { result ≡ [] }
     {
         LeafList {
-            blocks: BlockList::new(alloc),
+            root: Row::new(alloc),
         }
     }
 
@@ -44,13 +56,13 @@ impl<K: Ord + Dup, C: Join> LeafList<K, C> {
         ensures { IfOk result (λ leaves. all_entries leaves ≡ entries.items) }
     {
         Ok(LeafList {
-            blocks: BlockList::of_sorted(alloc, entries)?,
+            root: Row::of_sorted(alloc, entries)?,
         })
     }
 
     /// Where the leaves take memory.
     pub(crate) fn alloc(&self) -> Global {
-        self.blocks.alloc()
+        self.root.alloc()
     }
 
     /// How many entries there are.
@@ -58,7 +70,7 @@ impl<K: Ord + Dup, C: Join> LeafList<K, C> {
         ensures count { result ≡ length (all_entries self.now) }
         ensures leaf_list { IsLeafList K.cmp C.valid self.now }
     {
-        self.blocks.len()
+        self.root.all_sizes().entries
     }
 
     /// How many leaves there are.
@@ -66,14 +78,14 @@ impl<K: Ord + Dup, C: Join> LeafList<K, C> {
         ensures count { result ≡ length self.now }
         ensures leaf_list { IsLeafList K.cmp C.valid self.now }
     {
-        self.blocks.count()
+        self.root.all_sizes().leaves
     }
 
     /// Recalls for the prover that these are the leaves of a table.
     pub(crate) fn recall_leaf_list(&self)
         ensures { IsLeafList K.cmp C.valid self.now }
     {
-        self.blocks.recall_blocks();
+        self.root.recall_row();
     }
 
     /// The entries of the leaf at an index. `None` past the last.
@@ -81,7 +93,8 @@ impl<K: Ord + Dup, C: Join> LeafList<K, C> {
         ensures leaf { option_map (λ leaf. leaf.now) result ≡ slice_get self.now index }
         ensures leaf_list { IsLeafList K.cmp C.valid self.now }
     {
-        self.blocks.leaf(index)
+        self.recall_leaf_list();
+        self.root.leaf(index)
     }
 
     /// The content at a key.
@@ -89,7 +102,7 @@ impl<K: Ord + Dup, C: Join> LeafList<K, C> {
         ensures found { option_copied result ≡ find K.cmp key.now (all_entries self.now) }
         ensures is_valid { IfSome result (λ content. C.valid content.now) }
     {
-        self.blocks.get(key)
+        self.root.find_key(key).1
     }
 
     /// The index of a key among all entries.
@@ -97,7 +110,7 @@ impl<K: Ord + Dup, C: Join> LeafList<K, C> {
         ensures index { result ≡ index_of K.cmp key.now (all_entries self.now) }
         ensures leaf_list { IsLeafList K.cmp C.valid self.now }
     {
-        self.blocks.binary_search(key)
+        self.root.find_key(key).0
     }
 
     /// The entry at an index among all entries.
@@ -105,7 +118,8 @@ impl<K: Ord + Dup, C: Join> LeafList<K, C> {
         ensures entry { option_map (λ e. e.now) result ≡ slice_get (all_entries self.now) index }
         ensures leaf_list { IsLeafList K.cmp C.valid self.now }
     {
-        self.blocks.entry_at(index)
+        self.recall_leaf_list();
+        self.root.rest_of_leaf(index).first()
     }
 
     /// All entries.
@@ -113,7 +127,7 @@ impl<K: Ord + Dup, C: Join> LeafList<K, C> {
         ensures all { result ≡ all_entries self.now }
         ensures leaf_list { IsLeafList K.cmp C.valid self.now }
     {
-        self.blocks.iter()
+        self.iter_from(0)
     }
 
     /// The entries from an index on.
@@ -121,15 +135,16 @@ impl<K: Ord + Dup, C: Join> LeafList<K, C> {
         ensures rest { result ≡ drop index (all_entries self.now) }
         ensures leaf_list { IsLeafList K.cmp C.valid self.now }
     {
-        self.blocks.iter_from(index)
+        self.recall_leaf_list();
+        Entries::new(&self.root, index)
     }
 
-    /// An equal list. Blocks are shared where possible.
+    /// An equal list. Nodes are shared where possible.
     pub(crate) fn share(&self) -> Result<Self, NoMemory>
         ensures { IfOk result (λ copy. copy ≡ self.now) }
     {
         Ok(LeafList {
-            blocks: self.blocks.share()?,
+            root: self.root.copy()?,
         })
     }
 
@@ -143,7 +158,32 @@ impl<K: Ord + Dup, C: Join> LeafList<K, C> {
         ensures err { OnErr result (self.new ≡ self.old) }
         ensures leaf_list { IsLeafList K.cmp C.valid self.old × IsLeafList K.cmp C.valid self.new }
     {
-        self.blocks.join_entry(key, content)
+        self.recall_leaf_list();
+        if self.root.is_empty() {
+            let pushed = self.push_first(key, content);
+            self.recall_leaf_list();
+            return pushed;
+        }
+        let (index, _) = self.root.find_key(&key);
+        let joined = self.root.join_in_row(index, key, content);
+        self.recall_leaf_list();
+        joined
+    }
+
+    /// Makes the first leaf, of one entry. An error leaves none.
+    fn push_first(&mut self, key: K, content: C) -> Result<(), NoMemory>
+        requires valid { C.valid content }
+        requires none { self.old ≡ [] }
+        ensures ok { OnOk result (self.new ≡ ((key, content) ∷ []) ∷ []) }
+        ensures err { OnErr result (self.new ≡ self.old) }
+    {
+        let alloc = self.alloc();
+        let mut entries = Vec::with_capacity(alloc, FIRST_CAPACITY)?;
+        entries.push_reserved((key, content));
+        let root = Row::of_sorted(alloc, entries)?;
+        root.recall_row();
+        self.root = root;
+        Ok(())
     }
 
     /// Adds the other's entries from index `from` to before index `to` after all others.
@@ -158,11 +198,11 @@ impl<K: Ord + Dup, C: Join> LeafList<K, C> {
         requires table { IsTable K.cmp C.valid (all_entries self.old ++ slice_range (all_entries other.now) from to) }
         ensures { OnOk result (all_entries self.new ≡ all_entries self.old ++ slice_range (all_entries other.now) from to) }
     {
-        self.blocks.push_slice(&other.blocks, from, to)
+        self.root.push_slice(&other.root, from, to)
     }
 
-    /// Joins all entries of the other and returns true. If no more than one split of each full leaf makes room for
-    /// them, no entry changes, and it returns false.
+    /// Joins all entries of the other and returns true. If they don't fit where each full leaf is cut in two, no entry
+    /// changes, and it returns false.
     pub(crate) fn join_all(&mut self, other: &Self) -> Result<bool, NoMemory>
         ensures done { IfOk result (λ done. IsTrue done → contents_at K.cmp C.meaning (all_entries self.new)
             ≡ key_by_key C.joined (contents_at K.cmp C.meaning (all_entries self.old)) (contents_at K.cmp C.meaning (all_entries other.now))) }
@@ -170,18 +210,27 @@ impl<K: Ord + Dup, C: Join> LeafList<K, C> {
         ensures err { OnErr result (all_entries self.new ≡ all_entries self.old) }
         ensures leaf_list { IsLeafList K.cmp C.valid self.new }
     {
-        self.blocks.join_all(&other.blocks)
+        self.recall_leaf_list();
+        other.recall_leaf_list();
+        let edits = edits_from(&self.root, &other.root)?;
+        let done = put_edits(&mut self.root, edits)?;
+        Ok(done)
     }
 
     /// Does the same, and returns what the other's entries change.
     pub(crate) fn join_with_changes(&mut self, other: &Self) -> Result<BulkJoin<K, C>, NoMemory>
-        ensures changes { IfOk result (λ bulk. AreChanges K.cmp C.meaning C.joined C.valid (all_entries self.old) (all_entries other.now) bulk.changes.items) }
-        ensures done { IfOk result (λ bulk. IsTrue bulk.is_done → contents_at K.cmp C.meaning (all_entries self.new)
+        ensures changes { IfOk result (λ told. AreChanges K.cmp C.meaning C.joined C.valid (all_entries self.old) (all_entries other.now) told.changes.items) }
+        ensures done { IfOk result (λ told. IsTrue told.is_done → contents_at K.cmp C.meaning (all_entries self.new)
             ≡ key_by_key C.joined (contents_at K.cmp C.meaning (all_entries self.old)) (contents_at K.cmp C.meaning (all_entries other.now))) }
-        ensures undone { IfOk result (λ bulk. bulk.is_done ≡ false → all_entries self.new ≡ all_entries self.old) }
+        ensures undone { IfOk result (λ told. told.is_done ≡ false → all_entries self.new ≡ all_entries self.old) }
         ensures err { OnErr result (all_entries self.new ≡ all_entries self.old) }
         ensures leaf_list { IsLeafList K.cmp C.valid self.new }
     {
-        self.blocks.join_with_changes(&other.blocks)
+        self.recall_leaf_list();
+        other.recall_leaf_list();
+        let mut edits = edits_from(&self.root, &other.root)?;
+        let changes = take_changes(self.alloc(), &mut edits)?;
+        let is_done = put_edits(&mut self.root, edits)?;
+        Ok(BulkJoin { changes, is_done })
     }
 }

@@ -2,8 +2,9 @@
 
 ghost use Rattle.std.specs.Prelude.{◌≡◌, IsTrue, OnOk, OnErr};
 ghost use Rattle.std.specs.FinMap.{is_sorted};
-ghost use Rattle.pn_join.specs.Tables.{index_of, AreUpTo, IsTable};
-ghost use Rattle.pn_join.specs.Leaves.{IsPutOf};
+ghost use Rattle.pn_join.specs.Indices.{index_of, AreUpTo};
+ghost use Rattle.pn_join.specs.PutInLeaves.{IsPutOf};
+ghost use Rattle.pn_join.specs.Tables.{IsTable};
 
 use crate::table::leaf::is_last_below;
 use crate::table::leaf_join::join_one;

@@ -1,7 +1,8 @@
 -- What lines ask for, and the limits of it.
 use Rattle.std.specs.Prelude.{ℕ, List, Option, Bool, true, ◌&&◌, nat_le, length, Some, None}
 use Rattle.std.specs.List.{list_all}
-use Rattle.pn_join.specs.Marks.{Positions, is_name}
+use Rattle.pn_join.specs.Marks.{Positions}
+use Rattle.pn_join.specs.Naming.{is_name}
 use Rattle.pn_record.specs.Sets.{Stamp}
 use Rattle.pn_record.specs.Reading.{is_image}
 use Rattle.pn_record.specs.Limits.{is_key, is_version}

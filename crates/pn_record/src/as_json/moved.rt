@@ -43,26 +43,17 @@ pub(crate) fn parts_of<'v>(value: &'v Value, members: &'v Map<String, Value>) ->
 {
     match parts_in_order(members) {
         Some(parts) => parts,
-        None => parts_by_name(value, members),
-    }
-}
-
-fn parts_by_name<'v>(value: &'v Value, members: &'v Map<String, Value>) -> Parts<'v>
-    ensures deleted { seen result.deleted ≡ get (codes "deleted") (view value.now) }
-    ensures fields { seen result.fields ≡ get (codes "fields") (view value.now) }
-    ensures key { seen result.key ≡ get (codes "key") (view value.now) }
-    ensures master { seen result.master ≡ get (codes "master") (view value.now) }
-    ensures version { seen result.version ≡ get (codes "version") (view value.now) }
-    ensures named { result.named ≡ no_others image_members Member.Other (members_view members.now.entries) }
-{
-    let names = ["deleted", "fields", "key", "master", "version"];
-    Parts {
-        deleted: value.get("deleted"),
-        fields: value.get("fields"),
-        key: value.get("key"),
-        master: value.get("master"),
-        version: value.get("version"),
-        named: check_names(members, &names, Member::Other),
+        None => {
+            let names = ["deleted", "fields", "key", "master", "version"];
+            Parts {
+                deleted: value.get("deleted"),
+                fields: value.get("fields"),
+                key: value.get("key"),
+                master: value.get("master"),
+                version: value.get("version"),
+                named: check_names(members, &names, Member::Other),
+            }
+        }
     }
 }
 

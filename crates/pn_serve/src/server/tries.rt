@@ -64,11 +64,11 @@ fn run_finished<R: Threads + Wait + Sync>(
     at_fault: AtFault,
     input: RoundInput,
 ) -> Result<Option<RoundInput>, ServeFault>
-    requires workers { (1 ≤ workers) × (workers ≤ MAX_WORKERS) }
     requires continues { All (Continues live.old.marks) input.deliveries.items }
-    ensures runs { RunsInput at_fault (value_of input) live.old live.new result }
-    ensures continues { IfOk result (λ back. IfSome back (λ input. All (Continues live.new.marks) input.deliveries.items)) }
+    requires workers { (1 ≤ workers) × (workers ≤ MAX_WORKERS) }
     ensures same { tablets_in live.new ≡ tablets_in live.old }
+    ensures continues { IfOk result (λ back. IfSome back (λ input. All (Continues live.new.marks) input.deliveries.items)) }
+    ensures runs { RunsInput at_fault (value_of input) live.old live.new result }
 {
     match at_fault {
         AtFault::Stop => {

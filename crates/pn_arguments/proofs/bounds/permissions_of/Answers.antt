@@ -1,6 +1,6 @@
 -- The number that is read is that of the text.
 use Rattle.std.proofs.Common.{◌∙◌}
-use Rattle.pn_arguments.proofs.SocketPermissions.{of_none, of_number}
+use Rattle.pn_arguments.proofs.PlannedArguments.{of_none, of_number}
 use Rattle.pn_arguments.proofs.bounds.permissions_of.Goals as goal
 
 pub returns-in-Ok : goal.returns-in-Ok

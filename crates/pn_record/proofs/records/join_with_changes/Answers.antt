@@ -2,7 +2,7 @@
 use Rattle.std.proofs.Common.{ℕ, ◌≢◌, List, [], ◌∷◌, Option, None, Some, option_map, sym, ap}
 use Rattle.std.proofs.lemmas.Result.{on_ok_weaker, IfOk-weaker}
 use Rattle.std.specs.List.{AllByRecursion, AllZip}
-use Rattle.pn_join.specs.Tables.{Changes, AreChanges, those_there}
+use Rattle.pn_join.specs.TableChanges.{Changes, those_there, AreChanges}
 use Rattle.pn_join.specs.declared.table.change.TableChange.{TableChange}
 use Rattle.pn_record.specs.Cells.{Entries}
 use Rattle.pn_record.specs.Sets.{bytes_cmp, CellValue, cell_joined, HasContents}

@@ -1,7 +1,7 @@
 -- The laws are lemmas.
 use Rattle.std.proofs.Common.{arith, max}
-use Rattle.pn_join.specs.Tables.{JoinLaws}
-use Rattle.pn_join.specs.Proofs.{key_by_key-laws}
+use Rattle.pn_join.specs.Laws.{JoinLaws}
+use Rattle.pn_join.specs.Proofs.TableLaws.{key_by_key-laws}
 use Rattle.pn_record.specs.Laws.{cell_joined-laws}
 use Rattle.pn_serve.proofs.PlainLines.{any_record, nothing_lost}
 use Rattle.pn_serve.proofs.ScriptLaws.{both_records, same_replies, line_held, end_held, input_held}

@@ -1,7 +1,7 @@
 -- One more change is added, or none is left.
 use Rattle.std.proofs.Common.{◌≡◌, List, [], ◌∷◌, ◌++◌, length, map, sym, ap, ◌∙◌, append-nil, append_assoc, arith, rules}
 use Rattle.std.specs.Vec.Iter.{into_iter_items, into_iter_len}
-use Rattle.pn_join.proofs.PutTogether.{none_left}
+use Rattle.pn_join.proofs.Changing.{none_left}
 use Rattle.pn_tablet.specs.Steps.{reported_change}
 use Rattle.pn_tablet.specs.declared.change.Change.{Change}
 use Rattle.pn_tablet.proofs.change.add_changes.Goals as goal

@@ -2,7 +2,7 @@
 use Rattle.std.proofs.Common.{◌^◌, ◌<◌, ◌++◌, codes, decimal, ◌∙◌, ap, ◌≡◌, true, sym, arith}
 use Rattle.json.specs.Print.{quoted}
 use Rattle.serde_json.specs.Written.{compact_text}
-use Rattle.pn_join.specs.Marks.{is_name}
+use Rattle.pn_join.specs.Naming.{is_name}
 use Rattle.pn_json.proofs.AppendedTexts.{appended_as, appended_both}
 use Rattle.pn_tablet.specs.CopyTexts.{mark_data}
 use Rattle.pn_tablet.proofs.CopyLineTexts.{short_mark}

@@ -1,7 +1,7 @@
 -- The line of a mark.
 use Rattle.std.proofs.Common.{rules, ◌≡◌, true, List, ℕ, [], ◌∷◌, ap, ◌∙◌, subst}
 use Rattle.std.proofs.lemmas.Result.{IfOk-weaker}
-use Rattle.pn_join.specs.Marks.{is_name}
+use Rattle.pn_join.specs.Naming.{is_name}
 use Rattle.pn_tablet.specs.CopyTexts.{mark_data}
 use Rattle.pn_tablet.specs.CopyWriting.{WritesLines}
 use Rattle.pn_tablet.specs.declared.copy_line.CopyLine.TheVariants.{Mark}

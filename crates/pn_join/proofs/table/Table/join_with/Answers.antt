@@ -1,6 +1,6 @@
 use Rattle.std.proofs.Common.{[], ◌∷◌, ap, ◌∙◌, sym, subst}
 use Rattle.pn_join.specs.Tables.{contents_at, key_by_key}
-use Rattle.pn_join.proofs.Puts.{none_joined, one_joined, valid_next}
+use Rattle.pn_join.proofs.JoinSteps.{none_joined, one_joined, valid_next}
 use Rattle.pn_join.proofs.table.Table.join_with.Goals as goal
 
 pub loop-key-init : goal.loop-key-init

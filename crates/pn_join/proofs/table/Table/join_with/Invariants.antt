@@ -1,5 +1,5 @@
 use Rattle.pn_join.specs.Tables.{IsTable}
-use Rattle.pn_join.proofs.Puts.{JoinsSoFar}
+use Rattle.pn_join.proofs.JoinSteps.{JoinsSoFar}
 use Rattle.pn_join.proofs.table.Table.join_with.Given as goal
 
 abbrev pub invariant-loop-key : goal.invariant-loop-key

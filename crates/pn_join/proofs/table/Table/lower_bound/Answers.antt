@@ -1,7 +1,6 @@
 use Rattle.std.proofs.Common.{sym, ap, ◌∙◌}
-use Rattle.pn_join.specs.Tables.{index_of}
-use Rattle.pn_join.proofs.Indices.{count_at_index}
-use Rattle.pn_join.proofs.Rising.{Rising-from_sorted}
+use Rattle.pn_join.specs.Indices.{index_of}
+use Rattle.pn_join.proofs.Rising.{count_at_index, Rising-from_sorted}
 use Rattle.pn_join.proofs.table.Table.lower_bound.Goals as goal
 
 pub returns-in-Ok : goal.returns-in-Ok

@@ -2,8 +2,7 @@
 use Rattle.std.proofs.Common.{◌≡◌, ◌<◌, [], ◌∷◌, ◌++◌, length, get_or, take, sym, ap, ◌∙◌, arith}
 use Rattle.pn_join.specs.Edits.{put_of}
 use Rattle.pn_join.specs.Edits.{changes_in}
-use Rattle.pn_join.proofs.EditPuts.{one_taken, puts_set}
-use Rattle.pn_join.proofs.EditSteps.{above_set}
+use Rattle.pn_join.proofs.LeafOpenings.{above_set, one_taken, puts_set}
 use Rattle.pn_join.proofs.table.edit.take_changes.Goals as goal
 
 pub loop-index-preserved : goal.loop-index-preserved

@@ -1,6 +1,6 @@
 use Rattle.std.proofs.Common.{rules}
 use Rattle.std.proofs.lemmas.Fn.{always_returns_same}
-use Rattle.pn_join.proofs.Indices.{index_from_search}
+use Rattle.pn_join.proofs.Places.{index_from_search}
 use Rattle.pn_join.proofs.Rising.{Rising-from_sorted}
 use Rattle.pn_join.proofs.table.leaf_join.binary_search.Goals as goal
 

@@ -3,7 +3,8 @@ use Rattle.std.proofs.Common.{rules, ◌≡◌, [], ap, ◌∙◌}
 use Rattle.std.specs.List.{list_all}
 use Rattle.serde_json.specs.Data.{Members, no_members}
 use Rattle.serde_json.specs.View.{members_view}
-use Rattle.pn_join.specs.Marks.{Positions, is_name}
+use Rattle.pn_join.specs.Marks.{Positions}
+use Rattle.pn_join.specs.Naming.{is_name}
 use Rattle.pn_record.proofs.MarksValues.{put_all, put_behind}
 use Rattle.pn_record.proofs.as_json.marks.members_of.Goals as goal
 

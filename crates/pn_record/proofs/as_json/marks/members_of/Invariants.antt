@@ -2,7 +2,7 @@
 use Rattle.std.proofs.Common.{◌≡◌}
 use Rattle.std.specs.List.{list_all}
 use Rattle.serde_json.specs.View.{members_view}
-use Rattle.pn_join.specs.Marks.{is_name}
+use Rattle.pn_join.specs.Naming.{is_name}
 use Rattle.pn_record.specs.Marks.{positions_data}
 use Rattle.pn_record.proofs.MarksValues.{put_all}
 use Rattle.pn_record.proofs.as_json.marks.members_of.Given as goal

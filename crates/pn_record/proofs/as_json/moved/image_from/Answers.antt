@@ -2,7 +2,7 @@
 use Rattle.std.proofs.Common.{◌≡◌, codes, true, IsTrue, sym, subst, rules}
 use Rattle.serde_json.specs.Find.{get}
 use Rattle.serde_json.specs.View.{view}
-use Rattle.pn_join.specs.Marks.{is_name}
+use Rattle.pn_join.specs.Naming.{is_name}
 use Rattle.pn_record.specs.Grammar.{body_fits, numbers_at, fields_at}
 use Rattle.pn_record.specs.Limits.{is_key, is_version}
 use Rattle.pn_json.specs.Members.{text_at}

@@ -1,7 +1,7 @@
 -- The name is written over the first of its zeros.
 
 use Rattle.std.proofs.Common.{ℕ, List, ◌++◌, subst, sym, length, drop, replicate}
-use Rattle.pn_join.specs.Marks.{HoldsName}
+use Rattle.pn_join.specs.Naming.{HoldsName}
 use Rattle.pn_join.specs.declared.marks.name.TheConstants.{MAX_NAME_BYTES}
 use Rattle.pn_join.proofs.NameText.{HoldsName-written}
 use Rattle.pn_join.proofs.marks.name.Name.of.Goals as goal

@@ -1,9 +1,0 @@
-use Rattle.std.proofs.Common.{◌≡◌, ◌≤◌, length, take, vec_len, vec_capacity}
-use Rattle.pn_join.proofs.table.entry_counts.copy_counts.Given as goal
-
-abbrev pub invariant-loop-end : goal.invariant-loop-end
-invariant-loop-end l = record {
-  copied : l.copy.items ≡ take l.end-index l.entry_counts;
-  len : vec_len l.copy ≡ l.end-index;
-  capacity : length l.entry_counts ≤ vec_capacity l.copy;
-}
