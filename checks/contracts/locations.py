@@ -7,12 +7,14 @@ from typing import NamedTuple
 
 from common.crates import TOP
 
-FUNCTION = re.compile(r"^\s*(?:pub(?:\(\w+\))? )?(?:const )?fn (\w+)", re.M)
+FUNCTION = re.compile(r"^\s*(?:pub(?:\(\w+\))? )?(?:const |final )?fn (\w+)", re.M)
 SIGNATURE_END = re.compile(r"^\s*(?:\{|.*\{)$", re.M)
 BEGINS_ITEM = re.compile(r"^(?:pub(?:\(\w+\))? )?(?:const|static|struct|enum|impl|trait|mod|use|type|macro_rules!)\b", re.M)
 # The head of an impl or of a trait whose items follow.
 BLOCK = re.compile(r"^(?:(impl)\b((?:.|\n +(?!where\b))*?)|(?:pub(?:\(\w+\))? )?trait (\w+)[^{]*?)(?: ?\{|\n *where\b[^{]*\{)$", re.M)
 TYPE = re.compile(r"^(?:pub(?:\(\w+\))? )?(?:struct|enum) (\w+)", re.M)
+# What a check calls a type of std whose own name says too little.
+RENAMED = {"io::Error": "IoError"}
 CLOSES, OPENS = {">": "<", ")": "(", "]": "["}, "<(["
 
 
@@ -84,14 +86,16 @@ def owner_of(head: str) -> tuple[str, bool]:
     if not is_for:
         return "+".join([kind, *arguments]), not arguments
     trait, given = shown(first, parameters)
-    return "".join([kind, trait, *given]), False
+    return "".join([kind, *arguments, trait, *given]), False
 
 
 def shown(text: str, parameters: set[str]) -> tuple[str, list[str]]:
     """The name of a type or a trait, without its path, and those of its arguments that are no parameters."""
     text = re.sub(r"^&(?:'\w+ )?(?:mut )?", "Ref&", text.strip())
+    if text.startswith("("):
+        text = f"Tuple{len([*parts_of(text[1:-1])])}<{text[1:-1]}>"
     head, _, rest = text.partition("<")
-    name = head.rpartition("::")[2]
+    name = RENAMED.get(head) or head.rpartition("::")[2]
     name = "Ref" + name.removeprefix("Ref&") if head.startswith("Ref&") else name
     arguments = [it.strip() for it in parts_of(cut(rest, ">")[0])] if rest else []
     named = ["".join([own, *inner]) for own, inner in (shown(it, parameters) for it in arguments if it not in parameters and not it.startswith("'"))]

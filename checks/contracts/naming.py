@@ -26,6 +26,8 @@ HEADS = {
     "<R: Wait + Copy, S: Source + Drop> Origin<S> for OnePublisher<R>": "OnePublisherOrigin",
     "<W: Write> Sink for W": "AnySink",
     " View for &Region": "RefRegionView",
+    "<K: Ord + Dup, C: Join> Node<K, C> for Vec<(K, C)>": "VecTuple2Node",
+    " From<ListenFault> for io::Error": "IoErrorFromListenFault",
 }
 FAULT = Location("fault", "from", "StreamFaultFromNoMemory", "fault")
 TAKE = Location("region::rounds", "take", "LiveRegion", "region")
