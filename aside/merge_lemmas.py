@@ -54,7 +54,10 @@ for new, olds in groups.items():
         head,uses,text=parsed[o]
         for u in uses:
             m=use.match(u)
-            if not m: 
+            if not m:
+                alias=u.split()[-1].rsplit('.',1)[-1]
+                for other in plain:
+                    if other!=u and other.split()[-1].rsplit('.',1)[-1]==alias: print("ALIAS", new, o, u, other)
                 if u not in plain: plain.append(u)
                 continue
             mod=m[1]
